@@ -23,7 +23,11 @@ impl SheetFault {
             SheetFault::BadForm(line) => (2, line),
             SheetFault::ShortBuffer(len) => (4, len),
         };
-        Code { layer: 1, number, place }
+        Code {
+            layer: 1,
+            number,
+            place,
+        }
     }
 }
 
@@ -41,7 +45,11 @@ impl SourceFault {
             SourceFault::WideCut(cut) => (17, cut as usize),
             SourceFault::BadRatio => (18, 0),
         };
-        Code { layer: 2, number, place }
+        Code {
+            layer: 2,
+            number,
+            place,
+        }
     }
 }
 
@@ -66,7 +74,11 @@ impl BoardFault {
             BoardFault::Priced(node) => (34, node),
             BoardFault::NoMember(member) => (35, member),
         };
-        Code { layer: 3, number, place }
+        Code {
+            layer: 3,
+            number,
+            place,
+        }
     }
 }
 

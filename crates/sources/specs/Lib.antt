@@ -1,0 +1,3 @@
+pub mod Checks
+pub mod Lists
+pub mod Ratios
