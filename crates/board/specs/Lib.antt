@@ -1,0 +1,7 @@
+pub mod Fresh
+pub mod Kept
+pub mod Begins
+pub mod Questions
+pub mod Savings
+pub mod Truth
+pub mod Released
