@@ -1,18 +1,24 @@
 -- The facts that every board keeps, one by one, and that making and beginning a board keep them. Assumes nothing.
 use mathlib.Core.Path.{_≡_, refl, sym, ap, subst, _∙_}
-use mathlib.Core.Bool.{true, false, Bool-set}
+use mathlib.Core.Bool.{Bool, true, false, cond, Bool-set}
 use mathlib.Core.List.{List}
 use mathlib.Core.Logic.{∥∥₁-elim, ∥∥₁-map, ⊎-elim}
 use Prim.Native.Nat.{ℕ, _+_, _*_, _≤_, _<_}
 use native.Mathlib.Bridge.{le-prop}
 use native.Mathlib.Nat.{ℕ-set, mul-le-mul}
 use native.Mathlib.Omega.{arith}
+use lib.Dec.{ltb}
 use lib.ListN.{length, getD, take, replicate}
 use lib.Seq.{getD-take}
 use Rattle.std.specs.declared.option.Option.{Option}
 use Rattle.std.specs.declared.option.Option.the-variants.{Some, None}
 use Rattle.std.proofs.shelf.Lists.{getD-replicate, getD-past, length-replicate}
+use Rattle.std.specs.declared.result.Result.{Result}
+use Rattle.std.specs.declared.result.Result.the-variants.{Ok, Err}
 use Rattle.std.proofs.shelf.Tests.{cases-lt}
+use Rattle.std.proofs.shelf.Ways.{tells}
+use Rattle.faults.specs.declared.layers.BoardFault.{BoardFault}
+use Rattle.faults.specs.declared.layers.BoardFault.the-variants.{NoMember}
 use Rattle.matching.specs.declared.row.Row.{Row}
 use Rattle.matching.specs.Rows.{no-row, row, Sound, AllSound}
 use Rattle.matching.specs.Lawful.{Lawful}
@@ -21,6 +27,7 @@ use Rattle.board.specs.declared.tables.Tables.{Tables}
 use Rattle.board.specs.Fresh.{padded, fresh}
 use Rattle.board.specs.Kept.{offered, Floored, Kept, Keeps}
 use Rattle.board.specs.Begins.{begun-with}
+use Rattle.board.specs.Questions.{of-member}
 use Rattle.board.proofs.Padding.{take-padded}
 
 -- what stands in the table is what is offered
@@ -109,3 +116,11 @@ begun-keeps t k kept some most tall =
       floored = (some, most, tall, refl);
       level = λ v l. getD-replicate 200 v (2 * k * t .top) 0 l;
     })
+
+-- a question on a member is answered only if it is there
+pub member-there : (t : Tables) (v : ℕ) (u : Unit {0}) → Ok u ≡ of-member t v tt → v < t .members
+member-there t v u h = by (ltb v (t .members)) refl h
+  where
+    by : (b : Bool) → ltb v (t .members) ≡ b → _≡_ {A = Result (Unit {0}) BoardFault} (Ok u) (cond b (Ok tt) (Err (NoMember v))) → v < t .members
+    by true e h = grind (arith, tells)
+    by false e h = let z : _≡_ {A = ℕ} 0 1 = cc in absurd (omega arith)

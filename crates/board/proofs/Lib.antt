@@ -1,5 +1,6 @@
 pub mod Padding
 pub mod Keeping
 pub mod Savings
+pub mod Partners
 pub mod Unpaired
 pub mod Slacks

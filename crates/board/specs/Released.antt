@@ -9,11 +9,11 @@ use Rattle.plan.specs.declared.plan.Plan.{Plan}
 use Rattle.board.specs.declared.tables.Tables.{Tables}
 use Rattle.board.specs.Questions.{partner-of, loose-of, shown-saving, ground-saving}
 
-pub record Released (t : Tables) (slack : ℕ) (p : Plan) : Type 0 where
+pub record Released (t : Tables) (bound : ℕ) (p : Plan) : Type 0 where
   pub members : p .members ≡ t .members
   pub shown : p .shown ≡ shown-saving t
   pub ground : p .ground ≡ ground-saving t
-  pub slack : p .slack ≡ slack
+  pub slack : p .slack ≡ bound
   pub floor : p .floor ≡ t .floor
   pub loose : p .loose ≡ loose-of t
   -- a place past the last member holds nothing

@@ -119,7 +119,8 @@ impl Tables {
         match self.begun {
             None => most,
             Some(k) => {
-                let ticks = 2 * most_pairs(members) as u64 + self.floor as u64 * self.loose() as u64;
+                let ticks = 2 * most_pairs(members) as u64
+                    + self.floor as u64 * self.loose() as u64;
                 most.min(ticks / (2 * k as u64))
             }
         }

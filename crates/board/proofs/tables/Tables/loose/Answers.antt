@@ -22,6 +22,6 @@ loop-v-again c =
     let v = c .loop-v .v in
     let told = is-none-by (mate ms v) (c .is-none .result) (c .is-none .ensures) in
     elim (c .if-is-none .came) [
-      then-is-none w ↦ (w .count-is ∙ loose-yes ms v (c .loop-v .count) (c .loop-v .inv .0) (told ∙ w .if-is-none .taken), omega (arith, w .count-is, c .loop-v .inv .1))
-    | else-is-none w ↦ (w .count-is ∙ loose-no ms v (c .loop-v .count) (c .loop-v .inv .0) (told ∙ w .if-is-none .left), omega (arith, w .count-is, c .loop-v .inv .1))
+      | then-is-none w ↦ (w .count-is ∙ loose-yes ms v (c .loop-v .count) (c .loop-v .inv .0) (told ∙ w .if-is-none .taken), omega (arith, w .count-is, c .loop-v .inv .1))
+      | else-is-none w ↦ (w .count-is ∙ loose-no ms v (c .loop-v .count) (c .loop-v .inv .0) (told ∙ w .if-is-none .left), omega (arith, w .count-is, c .loop-v .inv .1))
     ]

@@ -31,8 +31,8 @@ loop-e-again c =
     let e = c .loop-e .e in
     let tested = c .is-paired .ensures in
     elim (c .if-is-paired .came) [
-      then-is-paired w ↦ subst (Sofar s t (e + 1)) (sym (w .sum-is)) (sofar-more s t (c .pre) e (c .loop-e .sum) (w .of .result) (c .loop-e-test .taken) (c .loop-e .inv) (sym tested ∙ w .if-is-paired .taken) (w .of .ensures))
-    | else-is-paired w ↦ subst (Sofar s t (e + 1)) (sym (w .sum-is)) (sofar-skip s t e (c .loop-e .sum) (c .loop-e .inv) (sym tested ∙ w .if-is-paired .left))
+      | then-is-paired w ↦ subst (Sofar s t (e + 1)) (sym (w .sum-is)) (sofar-more s t (c .pre) e (c .loop-e .sum) (w .of .result) (c .loop-e-test .taken) (c .loop-e .inv) (sym tested ∙ w .if-is-paired .taken) (w .of .ensures))
+      | else-is-paired w ↦ subst (Sofar s t (e + 1)) (sym (w .sum-is)) (sofar-skip s t e (c .loop-e .sum) (c .loop-e .inv) (sym tested ∙ w .if-is-paired .left))
     ]
 
 pub returns : need.returns
