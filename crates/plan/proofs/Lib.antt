@@ -1,0 +1,5 @@
+pub mod Answer
+pub mod Capped
+pub mod Decimal
+pub mod Partners
+pub mod Telling

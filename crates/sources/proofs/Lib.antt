@@ -1,1 +1,3 @@
 pub mod FirstBad
+pub mod RowBounds
+pub mod Sizes

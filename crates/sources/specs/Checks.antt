@@ -12,3 +12,8 @@ judged (Some f) = Err f
 abbrev pub or-else : {E : Type 0} → Option E → Option E → Option E
 or-else None g = g
 or-else (Some f) g = Some f
+
+-- What a making takes, which never refuses: what is asked for, or this instead where a fault stands against it.
+abbrev pub unless-fault : {E A : Type 0} → Option E → A → A → A
+unless-fault None asked instead = asked
+unless-fault (Some f) asked instead = instead

@@ -2,4 +2,7 @@
 pub mod coarse;
 pub mod list_source;
 pub mod offer;
+pub mod pile;
 pub mod source;
+#[cfg(test)]
+mod tests;

@@ -8,8 +8,8 @@ use Rattle.board.proofs.board.Board.new.Needs as need
 pub ghost-result : need.ghost-result
 ghost-result g c =
     let s = g .S·Source in
-    let law = s .laws (c .args .source) in
-    (subst Keeps (sym (c .of-tables .ensures)) (fresh-keeps _ _ _ (s .carried (c .args .source)) law), tt)
+    let x = c .args .source in
+    (subst Keeps (sym (c .of-tables .ensures)) (fresh-keeps (s .size x) (s .rows x) (s .highest x) (s .carried x) (s .laws x)), tt)
 
 pub returns : need.returns
 returns g c =

@@ -1,0 +1,29 @@
+use mathlib.Core.Path.{_≡_, sym, ap, _∙_}
+use mathlib.Core.List.{List, [], _∷_, _++_}
+use Prim.Native.Nat.{ℕ}
+use native.Mathlib.Omega.{arith}
+use lib.Chars.{codes}
+use Rattle.plan.specs.Scraps.{held, capped}
+use Rattle.plan.specs.Texts.{form, code-text, refusal-text, written, write-result}
+use Rattle.plan.proofs.Capped.{held-all}
+use Rattle.plan.proofs.report.write_refusal.Needs as need
+
+pub returns : need.returns
+returns c =
+    let old = c .args .buffer .now in
+    let code = c .code-code .result in
+    let layer = c .from .result in
+    let number = c .from-2 .result in
+    let text = form (codes "refused") (layer ∷ number ∷ code .place ∷ []) in
+    let s = held (c .push-form .last .self) in
+    let new = held (c .new-text .result) in
+    let pushed : s ≡ capped (new ++ text) = cc (c .push-form .ensures .text) in
+    let layer-is : layer ≡ code .layer = cc (c .from .ensures) in
+    let number-is : number ≡ code .number = cc (c .from-2 .ensures) in
+    let told : text ≡ code-text code = cc (layer-is, number-is) in
+    let kept = held-all s new text pushed (c .new-text .ensures) (omega (arith, c .push-form .ensures .short)) in
+    let whole : s ≡ refusal-text (c .args .fault) = kept ∙ told ∙ ap code-text (c .code-code .ensures) in
+    record {
+      result = c .copy-into .ensures .result ∙ ap (λ t. write-result t old) whole;
+      bytes = c .copy-into .ensures .bytes ∙ ap (λ t. written t old) whole;
+    }
