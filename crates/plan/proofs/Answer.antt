@@ -1,5 +1,5 @@
 -- The whole text of an answer, from its parts. Assumes nothing.
-use mathlib.Core.Path.{_≡_, refl, ap, _∙_}
+use mathlib.Core.Path.{_≡_, ap, _∙_}
 use mathlib.Core.List.{List, [], _∷_, _++_, append-assoc}
 use Prim.Native.Nat.{ℕ, _*_, _≤_}
 use native.Mathlib.Omega.{arith}
@@ -7,7 +7,7 @@ use lib.Chars.{codes}
 use lib.ListN.{length, take}
 use Rattle.std.proofs.shelf.Lists.{length-append, length-take}
 use Rattle.plan.specs.declared.plan.Plan.{Plan}
-use Rattle.plan.specs.Texts.{form, pair-told, loose-told, told-from, plan-text}
+use Rattle.plan.specs.Texts.{form, pair-told, loose-told, told-from, head-line, plan-text}
 
 module _ (p : Plan) (floor n : ℕ) where
   abbrev pub head-part : List ℕ
@@ -23,7 +23,7 @@ module _ (p : Plan) (floor n : ℕ) where
   parts-whole ef en =
       append-assoc head-part pairs-part loose-part
       ∙ ap (λ f. form (codes "plan") (p .shown ∷ p .ground ∷ p .slack ∷ f ∷ p .loose ∷ []) ++ (pairs-part ++ loose-part)) ef
-      ∙ ap (λ k. form (codes "plan") (p .shown ∷ p .ground ∷ p .slack ∷ p .floor ∷ p .loose ∷ []) ++ (told-from pair-told 0 (take k (p .partners)) ++ told-from loose-told 0 (take k (p .partners)))) en
+      ∙ ap (λ k. head-line p ++ (told-from pair-told 0 (take k (p .partners)) ++ told-from loose-told 0 (take k (p .partners)))) en
 
   pub parts-short : n ≡ p .members → length head-part ≤ 112 → length pairs-part ≤ 51 * length (take n (p .partners)) → length loose-part ≤ 29 * length (take n (p .partners)) → length ((head-part ++ pairs-part) ++ loose-part) ≤ 16384
   parts-short en head pairs loose =

@@ -5,8 +5,8 @@ use Prim.Native.Nat.{ℕ, zero, suc, _+_, _≤_, _<_}
 use native.Mathlib.Omega.{arith}
 use lib.ListN.{length, getD, take, drop, set}
 use Rattle.std.proofs.shelf.Lists.{append-nil, length-push, length-take, length-take-le, take-all, take-at, take-more-set, at-drop-more, at-drop-all}
-use Rattle.plan.specs.declared.scrap.Scrap.{Scrap}
-use Rattle.plan.specs.Scraps.{held, capped}
+use Rattle.plan.specs.declared.draft.Draft.{Draft}
+use Rattle.plan.specs.Drafts.{held, capped}
 
 cut-early : (n : ℕ) (xs ys : List ℕ) → take n (take n xs ++ ys) ≡ take n (xs ++ ys)
 cut-early zero xs ys = refl
@@ -40,11 +40,11 @@ pub push-full : (bs : List ℕ) (n b : ℕ) → n ≡ 16384 → length bs ≡ 16
 unfolding capped
 push-full bs n b full e = sym (take-at (take n bs) (b ∷ []) 16384 (length-take-le n bs (omega arith) ∙ full))
 
-pub held-short : (s : Scrap) → length (held s) ≤ 16384
+pub held-short : (s : Draft) → length (held s) ≤ 16384
 held-short s = simp length-take (omega arith)
 
 -- what a text holds fits
-pub held-whole : (s : Scrap) → capped (held s ++ []) ≡ held s
+pub held-whole : (s : Draft) → capped (held s ++ []) ≡ held s
 held-whole s = ap capped (append-nil (held s)) ∙ capped-short (held s) (held-short s)
 
 -- A loop that pushes what F tells of a list, element by element: what is held and what is left to tell give the whole.
@@ -53,7 +53,7 @@ module _ {X : Type 0} (F : List X → List ℕ) (xs : List X) (i : ℕ) (d : X) 
   grow l after piece rest e p =
       capped-then after now piece rest p ∙ sym (at-drop-more (λ ys. capped (now ++ F ys)) xs i d l ∙ ap (λ ys. capped (now ++ ys)) e) ∙ inv
 
-pub grown : {X : Type 0} (F : List X → List ℕ) (xs : List X) (i : ℕ) (s : Scrap) (whole : List ℕ) → capped (held s ++ F (drop i xs)) ≡ capped whole → length xs ≤ i → F [] ≡ [] → held s ≡ capped whole
+pub grown : {X : Type 0} (F : List X → List ℕ) (xs : List X) (i : ℕ) (s : Draft) (whole : List ℕ) → capped (held s ++ F (drop i xs)) ≡ capped whole → length xs ≤ i → F [] ≡ [] → held s ≡ capped whole
 grown F xs i s whole inv l e =
     sym (held-whole s) ∙ sym (at-drop-all (λ ys. capped (held s ++ F ys)) xs i l ∙ ap (λ ys. capped (held s ++ ys)) e) ∙ inv
 

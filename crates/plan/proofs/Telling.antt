@@ -1,7 +1,7 @@
 -- A loop that tells of each member and its partner: what is left to tell, and that it is short. Assumes nothing.
 use mathlib.Core.Path.{_≡_, refl, sym, ap, _∙_}
 use mathlib.Core.Bool.{true, false, true≢false, cond}
-use mathlib.Core.List.{List, [], _∷_, _++_}
+use mathlib.Core.List.{List, [], _++_}
 use Prim.Native.Nat.{ℕ, _+_, _*_, _≤_, _<_}
 use native.Mathlib.Omega.{arith}
 use lib.Dec.{ltb}
@@ -11,8 +11,8 @@ use Rattle.std.specs.declared.option.Option.the-variants.{Some, None}
 use Rattle.std.specs.Options.{isSome}
 use Rattle.std.proofs.shelf.Ways.{tells}
 use Rattle.std.proofs.shelf.Lists.{length-append, at-drop-more, at-drop-all}
-use Rattle.plan.specs.declared.scrap.Scrap.{Scrap}
-use Rattle.plan.specs.Scraps.{held, capped}
+use Rattle.plan.specs.declared.draft.Draft.{Draft}
+use Rattle.plan.specs.Drafts.{held, capped}
 use Rattle.plan.specs.Texts.{pair-line, loose-line, pair-told, loose-told, told-from}
 use Rattle.plan.proofs.Capped.{grow, grown}
 
@@ -63,7 +63,7 @@ module _ (f : ℕ → Option ℕ → List ℕ) (k : ℕ) (ms : List (Option ℕ)
         let rest = told-from f (i + 1) (drop (i + 1) ms) in
         (sym (at-drop-more (λ ys. capped (now ++ told-from f i ys)) ms i None l ∙ ap (λ ys. capped (now ++ (ys ++ rest))) e) ∙ inv .0, shorter l [] e (omega arith))
 
-  pub tell-all : (i : ℕ) (s : Scrap) → Telling f k ms i was (held s) → length ms ≤ i → held s ≡ capped (was ++ told-from f 0 ms)
+  pub tell-all : (i : ℕ) (s : Draft) → Telling f k ms i was (held s) → length ms ≤ i → held s ≡ capped (was ++ told-from f 0 ms)
   tell-all i s inv l = grown (told-from f i) ms i s (was ++ told-from f 0 ms) (inv .0) l refl
 
   pub tell-short : (i : ℕ) (now : List ℕ) → Telling f k ms i was now → i ≡ length ms → length (told-from f 0 ms) ≤ k * length ms

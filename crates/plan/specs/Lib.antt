@@ -1,3 +1,3 @@
+pub mod Drafts
 pub mod Plans
-pub mod Scraps
 pub mod Texts

@@ -1,16 +1,19 @@
 // The text of an answer: a plan or a refusal, written into a buffer if it fits.
 ghost use mathlib.Core.Path.{_≡_};
+ghost use Prim.Native.Nat.{_≤_};
+ghost use lib.ListN.{length};
 ghost use Rattle.plan.specs.Texts.{plan-text, refusal-text, written, write-result};
+use crate::draft::Draft;
 use crate::plan::Plan;
-use crate::scrap::Scrap;
 use faults::fault::Fault;
 use faults::layers::SheetFault;
 
 pub fn write_plan(plan: &Plan, buffer: &mut [u8]) -> Result<usize, SheetFault>
     ensures result { λ r. ⌜ r ≡ write-result (plan-text (now (plan .entry))) (now (buffer .entry)) ⌝ }
     ensures bytes { λ _. ⌜ now (buffer .exit) ≡ written (plan-text (now (plan .entry))) (now (buffer .entry)) ⌝ }
+    ensures short { λ _. ⌜ length (plan-text (now (plan .entry))) ≤ 16384 ⌝ }
 {
-    let mut text = Scrap::new();
+    let mut text = Draft::new();
     text.push_form(
         b"plan",
         &[
@@ -30,9 +33,10 @@ pub fn write_plan(plan: &Plan, buffer: &mut [u8]) -> Result<usize, SheetFault>
 pub fn write_refusal(fault: Fault, buffer: &mut [u8]) -> Result<usize, SheetFault>
     ensures result { λ r. ⌜ r ≡ write-result (refusal-text fault) (now (buffer .entry)) ⌝ }
     ensures bytes { λ _. ⌜ now (buffer .exit) ≡ written (refusal-text fault) (now (buffer .entry)) ⌝ }
+    ensures short { λ _. ⌜ length (refusal-text fault) ≤ 73 ⌝ }
 {
     let code = fault.code();
-    let mut text = Scrap::new();
+    let mut text = Draft::new();
     text.push_form(
         b"refused",
         &[

@@ -3,16 +3,16 @@ ghost use mathlib.Core.Path.{_≡_};
 ghost use mathlib.Core.List.{[], _∷_, _++_};
 ghost use Prim.Native.Nat.{_+_, _*_, _≤_};
 ghost use lib.ListN.{length};
-ghost use Rattle.plan.specs.Scraps.{held, capped};
+ghost use Rattle.plan.specs.Drafts.{held, capped};
 ghost use Rattle.plan.specs.Texts.{numeral, spaced, form, pair-line, pair-told, loose-told, told-from, written, write-result};
-use crate::scrap::Scrap;
+use crate::draft::Draft;
 use faults::layers::SheetFault;
 
-impl Scrap {
-    pub fn new() -> Scrap
+impl Draft {
+    pub fn new() -> Draft
         ensures { λ r. ⌜ held r ≡ [] ⌝ }
     {
-        Scrap {
+        Draft {
             bytes: [0; 16384],
             len: 0,
         }

@@ -2,9 +2,7 @@
 use Prim.Native.Nat.{ℕ, _+_, _-_, _*_, _/_, _≤_}
 use native.Mathlib.Nat.{mul-le-mul}
 use native.Mathlib.Omega.{arith}
-
-pub most-low : (n top : ℕ) → n ≤ 200 → top ≤ 100000 → n / 2 * top ≤ 10000000
-most-low n top few low = let p : n / 2 ≤ 100 = omega arith in let h : n / 2 * top ≤ 100 * 100000 = mul-le-mul p low in h
+use Rattle.sources.specs.ListLaws.{most-low}
 
 pub gap-low : (N n top cut : ℕ) → N ≤ 100000 → n ≤ 200 → top ≤ 100000 → cut ≤ n / 2 * top → N * cut + (N - 1) * (n / 2) ≤ 1000010000000
 gap-low N n top cut small few low short =

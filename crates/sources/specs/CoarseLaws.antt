@@ -1,4 +1,5 @@
--- A source whose shown savings are x/N of those below, rounded down, owes what each source owes. Assumes nothing.
+-- A coarse layer over any source that keeps the laws keeps them too. The proof stands here, since `laws` of the layer is this term.
+-- Assumes nothing.
 use mathlib.Core.Path.{_≡_, refl, sym, ap, fun-ext, _∙_}
 use mathlib.Core.List.{List, [], _∷_}
 use Prim.Native.Nat.{ℕ, zero, suc, _+_, _-_, _*_, _/_, min, _≤_, _<_}
@@ -7,7 +8,7 @@ use native.Mathlib.Omega.{arith}
 use lib.ListN.{length, length-map}
 use Rattle.std.proofs.shelf.Bits.{le-div}
 use Rattle.matching.specs.declared.row.Row.{Row}
-use Rattle.matching.specs.Rows.{row, Sound, AllSound}
+use Rattle.matching.specs.Rows.{row, AllSound}
 use Rattle.matching.specs.Pairings.{ends, Pairing, shown-of, ground-of}
 use Rattle.matching.specs.Sums.{total}
 use Rattle.matching.specs.Lawful.{Lawful}
@@ -41,10 +42,10 @@ module _ (x N : ℕ) (rs : List Row) where
   same-ends [] = refl
   same-ends (e ∷ es) = rw (row-coarse x N rs e, same-ends es)
 
-  pub same-ground : (es : List ℕ) → ground-of (coarse-rows x N rs) es ≡ ground-of rs es
+  same-ground : (es : List ℕ) → ground-of (coarse-rows x N rs) es ≡ ground-of rs es
   same-ground es = ap (λ f. total f es) (fun-ext (λ e. ap (λ (r : Row). r .ground) (row-coarse x N rs e)))
 
-  pub same-pairing : (es : List ℕ) → Pairing (coarse-rows x N rs) es → Pairing rs es
+  same-pairing : (es : List ℕ) → Pairing (coarse-rows x N rs) es → Pairing rs es
   same-pairing es p = record {
     offers = rw (length-map rs (coarse-row x N)) at (p .offers);
     apart = rw (same-ends es) at (p .apart);

@@ -1,8 +1,9 @@
--- A list of offers that nothing stands against keeps the laws of a source. Assumes nothing.
+-- A list of offers that nothing stands against keeps the laws of a source. The proof stands here, since `laws` of the source is this term.
+-- Assumes nothing.
 use mathlib.Core.Path.{_≡_, refl, ap, fun-ext}
-use mathlib.Core.Bool.{Bool, true, false, cond, not}
+use mathlib.Core.Bool.{Bool, true, false, cond}
 use mathlib.Core.List.{List, [], _∷_}
-use Prim.Native.Nat.{ℕ, zero, suc, _+_, _*_, _/_, max, _≤_, _<_}
+use Prim.Native.Nat.{ℕ, zero, suc, _+_, _*_, _/_, _≤_, _<_}
 use native.Mathlib.Nat.{mul-le-mul}
 use native.Mathlib.Omega.{arith}
 use lib.Dec.{eqb, leb, ltb}
@@ -13,7 +14,6 @@ use Rattle.std.specs.declared.option.Option.the-variants.{Some, None}
 use Rattle.std.proofs.shelf.Tests.{true≢false, and-parts, not-true, ltb-true, leb-true, eqb-false}
 use Rattle.faults.specs.declared.layers.SourceFault.{SourceFault}
 use Rattle.faults.specs.declared.layers.SourceFault.the-variants.{TooManyMembers, TooManyOffers, BadMember, HighSaving}
-use Rattle.matching.specs.declared.row.Row.{Row}
 use Rattle.matching.specs.Rows.{row, AllSound}
 use Rattle.matching.specs.Pairings.{shown-of, ground-of}
 use Rattle.matching.specs.Sums.{total}
@@ -23,6 +23,10 @@ use Rattle.sources.specs.Checks.{or-else}
 use Rattle.sources.specs.Lists.{no-offer, names, modest, first-bad, unless, size-fault, list-fault}
 use Rattle.sources.specs.ListRows.{list-row, list-rows, largest-saving, list-carry}
 use Rattle.sources.specs.declared.offer.Offer.{Offer}
+
+-- no pairing saves over 10,000,000
+pub most-low : (n top : ℕ) → n ≤ 200 → top ≤ 100000 → n / 2 * top ≤ 10000000
+most-low n top few low = let half : n / 2 ≤ 100 = omega arith in let h : n / 2 * top ≤ 100 * 100000 = mul-le-mul half low in h
 
 -- where no fault is found, each test passed
 neither : {E : Type 0} (f g : Option E) → or-else f g ≡ None → (f ≡ None) × (g ≡ None)
@@ -80,7 +84,7 @@ module _ (n : ℕ) (os : List Offer) (sound : isSome (list-fault n os) ≡ false
   abbrev offers-fault : Option SourceFault
   offers-fault = unless (leb (length os) 4000) (TooManyOffers 4000)
 
-  pub listed-few : n ≤ 200
+  listed-few : n ≤ 200
   listed-few =
       let h = neither (size-fault n) (or-else offers-fault (or-else members-fault savings-fault)) (not-some (list-fault n os) sound) .0 in
       leb-true n 200 (passed (leb n 200) (TooManyMembers n) h)
@@ -88,21 +92,21 @@ module _ (n : ℕ) (os : List Offer) (sound : isSome (list-fault n os) ≡ false
   after-size : or-else offers-fault (or-else members-fault savings-fault) ≡ None
   after-size = neither (size-fault n) (or-else offers-fault (or-else members-fault savings-fault)) (not-some (list-fault n os) sound) .1
 
-  pub listed-short : length os ≤ 4000
+  listed-short : length os ≤ 4000
   listed-short =
       let h = neither offers-fault (or-else members-fault savings-fault) after-size .0 in
       leb-true (length os) 4000 (passed (leb (length os) 4000) (TooManyOffers 4000) h)
 
-  no-members-fault : (members-fault ≡ None) × (savings-fault ≡ None)
-  no-members-fault = neither members-fault savings-fault (neither offers-fault (or-else members-fault savings-fault) after-size .1)
+  no-offer-fault : (members-fault ≡ None) × (savings-fault ≡ None)
+  no-offer-fault = neither members-fault savings-fault (neither offers-fault (or-else members-fault savings-fault) after-size .1)
 
-  pub saving-low : (e : ℕ) → e < length os → getD os e no-offer .saving ≤ 100000
+  saving-low : (e : ℕ) → e < length os → getD os e no-offer .saving ≤ 100000
   saving-low e l =
-      let h = none-mapped HighSaving (first-bad modest 0 os) (no-members-fault .1) in
+      let h = none-mapped HighSaving (first-bad modest 0 os) (no-offer-fault .1) in
       leb-true (getD os e no-offer .saving) 100000 (each-passed modest 0 os h e l)
 
   named : (e : ℕ) → e < length os → names n (getD os e no-offer) ≡ true
-  named e l = each-passed (names n) 0 os (none-mapped BadMember (first-bad (names n) 0 os) (no-members-fault .0)) e l
+  named e l = each-passed (names n) 0 os (none-mapped BadMember (first-bad (names n) 0 os) (no-offer-fault .0)) e l
 
 module _ (n top : ℕ) (os : List Offer) (sound : isSome (list-fault n os) ≡ false) (high : top ≡ largest-saving os) where
   listed-sound : AllSound n top (list-rows os)
@@ -119,14 +123,11 @@ module _ (n top : ℕ) (os : List Offer) (sound : isSome (list-fault n os) ≡ f
         ground-low = saving-low n os sound e l′;
       }
 
-  pub listed-low : top ≤ 100000
+  listed-low : top ≤ 100000
   listed-low = omega (arith, largest-low os (saving-low n os sound))
 
-  pub listed-capped : (s : ℕ) → list-carry n top s ≤ 10000000
-  listed-capped s =
-      let half : n / 2 ≤ 100 = omega (arith, listed-few n os sound) in
-      let m : n / 2 * top ≤ 100 * 100000 = mul-le-mul half listed-low in
-      omega arith
+  listed-capped : (s : ℕ) → list-carry n top s ≤ 10000000
+  listed-capped s = omega (arith, most-low n top (listed-few n os sound) listed-low)
 
   listed-carries : Carries (list-rows os) (list-carry n top)
   listed-carries a b s pa pb h =

@@ -1,6 +1,6 @@
 // A layer over a source whose shown savings are x/N of those below, rounded down.
 ghost use mathlib.Core.Path.{_≡_};
-ghost use Prim.Native.Nat.{ℕ, _≤_};
+ghost use Prim.Native.Nat.{_≤_};
 ghost use Rattle.sources.specs.Checks.{judged, unless-fault};
 ghost use Rattle.sources.specs.Coarse.{part-of, coarse-rows, coarse-carry};
 ghost use Rattle.sources.specs.CoarseLaws.{coarse-laws};

@@ -2,7 +2,6 @@
 ghost use mathlib.Core.Path.{_≡_};
 ghost use mathlib.Core.Bool.{false};
 ghost use mathlib.Core.List.{[]};
-ghost use Prim.Native.Nat.{ℕ};
 ghost use Rattle.std.specs.Options.{isSome};
 ghost use Rattle.matching.specs.Rows.{row};
 ghost use Rattle.sources.specs.Checks.{judged, unless-fault};

@@ -1,6 +1,6 @@
 // What holds of every source, and so of any pile of layers over one.
 ghost use mathlib.Core.Path.{_≡_};
-ghost use Prim.Native.Nat.{ℕ, _≤_};
+ghost use Prim.Native.Nat.{_≤_};
 ghost use Rattle.sources.specs.Pile.{NoMore};
 use crate::source::Source;
 

@@ -1,8 +1,9 @@
-use mathlib.Core.Path.{_≡_, ap, _∙_}
+use mathlib.Core.Path.{_≡_, ap, subst, _∙_}
 use mathlib.Core.List.{_++_}
-use Prim.Native.Nat.{_-_}
+use Prim.Native.Nat.{_-_, _≤_}
 use native.Mathlib.Omega.{arith}
-use Rattle.plan.specs.Scraps.{held, capped}
+use lib.ListN.{length}
+use Rattle.plan.specs.Drafts.{held, capped}
 use Rattle.plan.specs.Texts.{plan-text, written, write-result}
 use Rattle.plan.proofs.Answer.{head-part, pairs-part, loose-part, parts-whole, parts-short}
 use Rattle.plan.proofs.Capped.{push-then, held-all}
@@ -28,8 +29,10 @@ returns c =
     let pairs-too = push-then s2 s1 new head pairs headed paired in
     let loose-too = push-then s3 s2 new (head ++ pairs) loose pairs-too loosed in
     let short = parts-short p floor n all (c .push-form .ensures .short) (c .push-pairs .ensures .short) (c .push-loose .ensures .short) in
-    let whole : s3 ≡ plan-text p = held-all s3 new ((head ++ pairs) ++ loose) loose-too (c .new-text .ensures) short ∙ parts-whole p floor n (c .from .ensures) all in
+    let told : (head ++ pairs) ++ loose ≡ plan-text p = parts-whole p floor n (c .from .ensures) all in
+    let whole : s3 ≡ plan-text p = held-all s3 new ((head ++ pairs) ++ loose) loose-too (c .new-text .ensures) short ∙ told in
     record {
       result = c .copy-into .ensures .result ∙ ap (λ t. write-result t old) whole;
       bytes = c .copy-into .ensures .bytes ∙ ap (λ t. written t old) whole;
+      short = subst (λ t. length t ≤ 16384) told short;
     }

@@ -1,9 +1,10 @@
-use mathlib.Core.Path.{_≡_, sym, ap, _∙_}
-use mathlib.Core.List.{List, [], _∷_, _++_}
-use Prim.Native.Nat.{ℕ}
+use mathlib.Core.Path.{_≡_, ap, subst, _∙_}
+use mathlib.Core.List.{[], _∷_, _++_}
+use Prim.Native.Nat.{_≤_}
 use native.Mathlib.Omega.{arith}
 use lib.Chars.{codes}
-use Rattle.plan.specs.Scraps.{held, capped}
+use lib.ListN.{length}
+use Rattle.plan.specs.Drafts.{held, capped}
 use Rattle.plan.specs.Texts.{form, code-text, refusal-text, written, write-result}
 use Rattle.plan.proofs.Capped.{held-all}
 use Rattle.plan.proofs.report.write_refusal.Needs as need
@@ -21,9 +22,11 @@ returns c =
     let layer-is : layer ≡ code .layer = cc (c .from .ensures) in
     let number-is : number ≡ code .number = cc (c .from-2 .ensures) in
     let told : text ≡ code-text code = cc (layer-is, number-is) in
-    let kept = held-all s new text pushed (c .new-text .ensures) (omega (arith, c .push-form .ensures .short)) in
-    let whole : s ≡ refusal-text (c .args .fault) = kept ∙ told ∙ ap code-text (c .code-code .ensures) in
+    let few : length text ≤ 73 = omega (arith, c .push-form .ensures .short) in
+    let named : text ≡ refusal-text (c .args .fault) = told ∙ ap code-text (c .code-code .ensures) in
+    let whole : s ≡ refusal-text (c .args .fault) = held-all s new text pushed (c .new-text .ensures) (omega arith) ∙ named in
     record {
       result = c .copy-into .ensures .result ∙ ap (λ t. write-result t old) whole;
       bytes = c .copy-into .ensures .bytes ∙ ap (λ t. written t old) whole;
+      short = subst (λ t. length t ≤ 73) named few;
     }

@@ -1,7 +1,7 @@
-use Prim.Native.Nat.{_+_, max, _≤_, _<_}
+use Prim.Native.Nat.{_+_, max}
 use mathlib.Core.Path.{_≡_}
 use native.Mathlib.Omega.{arith}
-use lib.ListN.{length, drop, getD}
+use lib.ListN.{drop, getD}
 use Rattle.std.proofs.shelf.Lists.{at-drop-more, at-drop-all}
 use Rattle.sources.specs.Lists.{no-offer}
 use Rattle.sources.specs.ListRows.{largest-saving}

@@ -1,5 +1,5 @@
-use Prim.Native.Nat.{_+_, _-_, _*_, _/_, _≤_}
-use mathlib.Core.Path.{_≡_, ap}
+use Prim.Native.Nat.{_-_, _*_}
+use mathlib.Core.Path.{ap}
 use native.Mathlib.Omega.{arith}
 use Rattle.sources.proofs.Sizes.{gap-low}
 use Rattle.sources.proofs.coarse.CoarseSource.carry.Needs as need

@@ -1,0 +1,5 @@
+pub mod Forms
+pub mod Lines
+pub mod Readers
+pub mod Sheets
+pub mod Tokens
