@@ -38,11 +38,11 @@ part-near x N v pos =
     omega (arith, lt-mul-div-succ (x * v) p, mul-add N (x * v / N) 1)
 
 module _ (x N : ℕ) (rs : List Row) where
-  same-ends : (es : List ℕ) → ends (coarse-rows x N rs) es ≡ ends rs es
+  pub same-ends : (es : List ℕ) → ends (coarse-rows x N rs) es ≡ ends rs es
   same-ends [] = refl
   same-ends (e ∷ es) = rw (row-coarse x N rs e, same-ends es)
 
-  same-ground : (es : List ℕ) → ground-of (coarse-rows x N rs) es ≡ ground-of rs es
+  pub same-ground : (es : List ℕ) → ground-of (coarse-rows x N rs) es ≡ ground-of rs es
   same-ground es = ap (λ f. total f es) (fun-ext (λ e. ap (λ (r : Row). r .ground) (row-coarse x N rs e)))
 
   same-pairing : (es : List ℕ) → Pairing (coarse-rows x N rs) es → Pairing rs es
