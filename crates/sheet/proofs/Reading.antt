@@ -97,7 +97,7 @@ module _ {first : Reader} {o : Outcome} {rest : List ℕ} {r : Reader} (h : Sofa
         let j = err-step (judged-line r line) f (bad ∙ step .same) in
         let stay : stage-at r′ ≡ stage-at r = step .stage ∙ ap (settled (stage-at r)) j in
         let out : record { answer = Err f; taken = offers-in (stage-at r) } ≡ o =
-            sym (split ∙ ap (λ x. onward (stage-at r) x (λ s. over (most-at r) (r .line + 1) s (lines after))) j) ∙ h .same in
+        sym (split ∙ ap (λ x. onward (stage-at r) x (λ s. over (most-at r) (r .line + 1) s (lines after))) j) ∙ h .same in
         record {
           lends = h .lent ∙ step .lent;
           answers = ap (λ x. x .answer) out;

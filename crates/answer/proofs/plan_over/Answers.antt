@@ -33,7 +33,7 @@ returns c =
     let now = begun s os (c .pre) t t′ same (c .in-Continue-begin .field-0) (said .value) (said .after) in
     let none = accepted s os (c .pre) t t′ same (c .in-Continue-begin .field-0) (said .value) in
     let plan = planned s os (c .pre) t t′ same (pile .below .n) (pile .below .offers .now) (pile .below .top) (pile .x) (pile .whole) made p now (c .new-board .ensures .shows)
-        (subst (λ z. Released t′ (coarse-carry (z .x) (z .whole) (z .below .n) (z .below .top) (list-carry (z .below .n) (z .below .top)) (gap t′)) p) kept (c .release .ensures .value))
-        (subst (λ z. Shows (z .below .n) (coarse-rows (z .x) (z .whole) (list-rows (z .below .offers .now))) (part-of (z .x) (z .whole) (z .below .top)) t′ → Bounds (coarse-rows (z .x) (z .whole) (list-rows (z .below .offers .now))) (p .ground) (p .slack)) kept (c .release .ensures .truth))
+    (subst (λ z. Released t′ (coarse-carry (z .x) (z .whole) (z .below .n) (z .below .top) (list-carry (z .below .n) (z .below .top)) (gap t′)) p) kept (c .release .ensures .value))
+    (subst (λ z. Shows (z .below .n) (coarse-rows (z .x) (z .whole) (list-rows (z .below .offers .now))) (part-of (z .x) (z .whole) (z .below .top)) t′ → Bounds (coarse-rows (z .x) (z .whole) (list-rows (z .below .offers .now))) (p .ground) (p .slack)) kept (c .release .ensures .truth))
     in
     subst (λ o. Begins o s os (Ok p)) (sym none) plan

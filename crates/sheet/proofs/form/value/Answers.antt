@@ -10,8 +10,7 @@ use Rattle.sheet.proofs.form.value.Needs.{then-digits-gt1, else-digits-gt1}
 pub loop-d-again : need.loop-d-again
 loop-d-again c =
     let ds = c .args .digits .now in
-    let i = c .loop-d .d-index in
-    (
+    let i = c .loop-d .d-index in (
       amount-more ds (c .loop-d .n) i (c .loop-d .inv .0) (omega arith),
       below-power (c .loop-d .n) _ i (c .loop-d .inv .1) (digit-below _ (c .pre i (omega arith))),
     )
