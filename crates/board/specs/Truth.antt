@@ -14,6 +14,10 @@ pub record Shows (n : ℕ) (rs : List Row) (top : ℕ) (t : Tables) : Type 0 whe
   pub offers : offered t ≡ rs
   pub highest : t .top ≡ top
 
+-- what the tables held before they hold after
+abbrev pub StillShows : Tables → Tables → Type 0
+StillShows t t′ = (n : ℕ) (rs : List Row) (top : ℕ) → Shows n rs top t → Shows n rs top t′
+
 -- no pairing of the offers saves more ground millimetres than one that saves `saved`, and the slack
 abbrev pub Bounds : List Row → ℕ → ℕ → Type 0
 Bounds rs saved slack = (b : List ℕ) → Pairing rs b → ground-of rs b ≤ saved + slack

@@ -6,7 +6,7 @@ ghost use Rattle.board.specs.Fresh.{fresh};
 ghost use Rattle.board.specs.Kept.{Keeps};
 ghost use Rattle.board.specs.Questions.{of-member, price-of, partner-of, loose-of, shown-saving, ground-saving, gap};
 ghost use Rattle.board.specs.Released.{Released};
-ghost use Rattle.board.specs.Truth.{Shows, Bounds};
+ghost use Rattle.board.specs.Truth.{Shows, StillShows, Bounds};
 use crate::saving::Saving;
 use crate::tables::Tables;
 use faults::layers::BoardFault;
@@ -44,6 +44,7 @@ impl<S: Source + Drop> Board<S> {
         ensures value { λ r. ⌜ r ≡ judged (begin-fault (now (self .entry) .tables) k) ⌝ }
         ensures after { λ _. ⌜ now (self .exit) .tables ≡ unless-refused (begin-fault (now (self .entry) .tables) k) (now (self .entry) .tables) (begun-with (now (self .entry) .tables) k) ⌝ }
         ensures source { λ _. ⌜ now (self .exit) .source ≡ now (self .entry) .source ⌝ }
+        ensures shows { λ _. ⌜ StillShows (now (self .entry) .tables) (now (self .exit) .tables) ⌝ }
     {
         self.tables.check_begin(k)?;
         self.tables.begin(k);

@@ -13,9 +13,7 @@ use crate::source::Source;
 use faults::layers::SourceFault;
 use matching::pairing::most_shown;
 
-// The most members and the most offers that a source may have.
-pub const MOST_MEMBERS: usize = 200;
-
+// The most offers that a source may have.
 pub const MOST_OFFERS: usize = 4000;
 
 #[derive(Drop)]
