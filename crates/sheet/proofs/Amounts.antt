@@ -10,7 +10,7 @@ use lib.ListN.{length, getD, drop}
 use Rattle.std.proofs.shelf.Lists.{at-drop-more, at-drop-all}
 use Rattle.std.proofs.shelf.Ways.{tells}
 use Rattle.sheet.specs.declared.token.Kind.the-variants.{Digit}
-use Rattle.sheet.specs.Forms.{amount}
+use Rattle.sheet.specs.Forms.{amount, plain}
 use Rattle.sheet.specs.Tokens.{belongs}
 
 module _ (ds : List ℕ) (n i : ℕ) (inv : amount n (drop i ds) ≡ amount 0 ds) where
@@ -26,3 +26,6 @@ below-power n d i l k = let e : 10 ^ (i + 1) ≡ 10 ^ i * 10 = ap (λ j. 10 ^ j)
 
 pub digit-below : (d : ℕ) → belongs Digit d ≡ true → d - 48 < 10
 digit-below d h = grind (arith, tells)
+
+pub plain-few : (ds : List ℕ) → plain ds ≡ true → length ds ≤ 6
+plain-few ds h = grind (arith, tells)

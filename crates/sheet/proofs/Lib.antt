@@ -1,7 +1,9 @@
 pub mod Amounts
 pub mod Finishing
 pub mod Keywords
+pub mod Laws
 pub mod LineLengths
+pub mod Numbers
 pub mod Reading
 pub mod Runs
 pub mod Soundness

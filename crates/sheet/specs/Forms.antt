@@ -25,7 +25,7 @@ abbrev pub written : ℕ → List ℕ
 written n = cond (eqb n 0) (48 ∷ []) (map (λ d. 48 + d) (digitsOf 10 n))
 
 -- two numbers with a space between
-abbrev two-text : ℕ → ℕ → List ℕ → List ℕ
+abbrev pub two-text : ℕ → ℕ → List ℕ → List ℕ
 two-text a b after = written a ++ (32 ∷ (written b ++ after))
 
 -- the line of a form, with its line feed

@@ -1,7 +1,7 @@
 // Forms: what a line of a sheet says.
 ghost use mathlib.Core.Path.{_≡_};
 ghost use Rattle.std.specs.Options.{mapped};
-ghost use Rattle.sheet.specs.Forms.{byte, ended, name-of, Digits, value-of, number-of, pair-of, two-of, offer-of, keyword-of, form, both-now, number-now, pair-now};
+ghost use Rattle.sheet.specs.Forms.{byte, ended, name-of, Digits, plain, value-of, number-of, pair-of, two-of, offer-of, keyword-of, form, Exact, both-now, number-now, pair-now};
 use crate::token::Token;
 use crate::token::next_token;
 use sources::offer::Offer;
@@ -69,12 +69,23 @@ fn name(text: &[u8]) -> Option<(&[u8], &[u8])>
     }
 }
 
-// The value of a numeral: it has one to six digits, and no needless zero.
+// Whether there are one to six digits, and no needless zero.
+fn is_plain(digits: &[u8]) -> bool
+    ensures { λ r. ⌜ r ≡ plain (now (digits .entry)) ⌝ }
+{
+    match digits {
+        [] => false,
+        [_] => true,
+        [first, ..] => *first != b'0' && digits.len() <= 6,
+    }
+}
+
+// The value of a numeral.
 fn value(digits: &[u8]) -> Option<u32>
     requires { ⌜ Digits (now digits) ⌝ }
     ensures { λ r. ⌜ r ≡ value-of (now (digits .entry)) ⌝ }
 {
-    if digits.len() == 0 || digits.len() > 6 || (digits.len() > 1 && digits[0] == b'0') {
+    if !is_plain(digits) {
         return None;
     }
     let mut n: u32 = 0;
@@ -142,7 +153,8 @@ fn keyword_of(word: &[u8]) -> Option<Keyword>
 
 // What a line with its line feed says, if it is the line of a form.
 pub fn read_form(line: &[u8]) -> Option<Form>
-    ensures { λ r. ⌜ r ≡ form (now (line .entry)) ⌝ }
+    ensures value { λ r. ⌜ r ≡ form (now (line .entry)) ⌝ }
+    ensures exactly { λ r. ⌜ Exact (now (line .entry)) r ⌝ }
 {
     let (word, rest) = name(open(line)?)?;
     match keyword_of(word)? {

@@ -12,7 +12,7 @@ returns c =
     let slots = c .args .slots .now in
     let input = c .args .input .now in
     let whole = by-lines (length slots) input _ (c .in-Continue-check-length .ensures tt) in
-    let told = c .read-lines .ensures .answer ∙ ap (λ o. o .answer) whole in
+    let told : c .read-lines .result ≡ sheet-of (length slots) input .answer = cc (c .read-lines .ensures .answer, ap (λ o. o .answer) whole) in
     let held = c .read-lines .ensures .taken ∙ ap (λ o. placed (o .taken) slots) whole in
     record {
       answer = told;
