@@ -13,7 +13,7 @@ use Rattle.faults.specs.declared.layers.BoardFault.{BoardFault}
 use Rattle.matching.specs.declared.row.Row.{Row}
 use Rattle.matching.specs.Pairings.{ends, Pairing, ground-of}
 use Rattle.sources.specs.declared.offer.Offer.{Offer}
-use Rattle.sources.specs.Checks.{judged, unless-fault}
+use Rattle.faults.specs.Checks.{judged, unless-fault}
 use Rattle.sources.specs.Lists.{list-fault}
 use Rattle.sources.specs.Ratios.{ratio-fault}
 use Rattle.sources.specs.ListRows.{list-rows, largest-saving, list-carry}
@@ -22,7 +22,7 @@ use Rattle.sources.specs.CoarseLaws.{same-ends, same-ground}
 use Rattle.plan.specs.declared.plan.Plan.{Plan}
 use Rattle.board.specs.declared.tables.Tables.{Tables}
 use Rattle.board.specs.Fresh.{fresh}
-use Rattle.board.specs.Begins.{begin-fault, begun-with, unless-refused}
+use Rattle.board.specs.Begins.{begin-fault, begun-with}
 use Rattle.board.specs.Questions.{gap}
 use Rattle.board.specs.Released.{Released}
 use Rattle.board.specs.Truth.{Shows, Bounds}
@@ -101,8 +101,8 @@ module _ (s : Sheet) (os : List Offer) (sound : Sound s os) where
     pub accepted : (u : Unit {0}) → Ok u ≡ judged (begin-fault t (s .k)) → begin-fault (new-board s os) (s .k) ≡ None
     accepted u h = sym (ap (λ u. begin-fault u (s .k)) same) ∙ begun-none (begin-fault t (s .k)) u h
 
-    pub begun : (u : Unit {0}) → Ok u ≡ judged (begin-fault t (s .k)) → t′ ≡ unless-refused (begin-fault t (s .k)) t (begun-with t (s .k)) → t′ ≡ begun-with t (s .k)
-    begun u h e = e ∙ ap (λ o. unless-refused o t (begun-with t (s .k))) (begun-none (begin-fault t (s .k)) u h)
+    pub begun : (u : Unit {0}) → Ok u ≡ judged (begin-fault t (s .k)) → t′ ≡ unless-fault (begin-fault t (s .k)) (begun-with t (s .k)) t → t′ ≡ begun-with t (s .k)
+    begun u h e = e ∙ ap (λ o. unless-fault o (begun-with t (s .k)) t) (begun-none (begin-fault t (s .k)) u h)
 
     -- the plan that is released then, and its slack
     module _ (n : ℕ) (offers : List Offer) (top x N : ℕ) (made : Made n offers top x N) where

@@ -8,8 +8,7 @@ use Rattle.std.specs.declared.option.Option.{Option}
 use Rattle.std.specs.declared.option.Option.the-variants.{Some, None}
 use Rattle.faults.specs.declared.layers.BoardFault.{BoardFault}
 use Rattle.faults.specs.declared.layers.BoardFault.the-variants.{AlreadyBegun, BadK, HighTop}
-use Rattle.sources.specs.Checks.{or-else}
-use Rattle.sources.specs.Lists.{unless}
+use Rattle.faults.specs.Checks.{or-else, unless}
 use Rattle.board.specs.declared.tables.Tables.{Tables}
 
 -- what stands against beginning with k, by rising number of the fault
@@ -31,8 +30,3 @@ begun-with t k = record {
   prices = replicate 200 (2 * k * t .top);
   mates = t .mates;
 }
-
--- the tables after a call that a fault, if there is one, turns away
-abbrev pub unless-refused : {E : Type 0} → Option E → Tables → Tables → Tables
-unless-refused None t after = after
-unless-refused (Some f) t after = t

@@ -1,7 +1,7 @@
 // Begin on the tables, in two halves: a check that only reads, and a write that cannot fail.
 ghost use mathlib.Core.Path.{_≡_};
 ghost use Prim.Native.Nat.{_≤_};
-ghost use Rattle.sources.specs.Checks.{judged};
+ghost use Rattle.faults.specs.Checks.{judged};
 ghost use Rattle.board.specs.Begins.{begin-fault, begun-with};
 use crate::tables::Tables;
 use faults::layers::BoardFault;

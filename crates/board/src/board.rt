@@ -1,7 +1,7 @@
 // A board over a source: the source is taken by value, so that one pile serves one board.
 ghost use mathlib.Core.Path.{_≡_};
-ghost use Rattle.sources.specs.Checks.{judged};
-ghost use Rattle.board.specs.Begins.{begin-fault, begun-with, unless-refused};
+ghost use Rattle.faults.specs.Checks.{judged, unless-fault};
+ghost use Rattle.board.specs.Begins.{begin-fault, begun-with};
 ghost use Rattle.board.specs.Fresh.{fresh};
 ghost use Rattle.board.specs.Kept.{Keeps};
 ghost use Rattle.board.specs.Questions.{of-member, price-of, partner-of, loose-of, shown-saving, ground-saving, gap};
@@ -42,7 +42,7 @@ impl<S: Source + Drop> Board<S> {
     // Starts the prices: the floor and every price at 2k × top ticks of 1/(2k) mm.
     pub fn begin(&mut self, k: u32) -> Result<(), BoardFault>
         ensures value { λ r. ⌜ r ≡ judged (begin-fault (now (self .entry) .tables) k) ⌝ }
-        ensures after { λ _. ⌜ now (self .exit) .tables ≡ unless-refused (begin-fault (now (self .entry) .tables) k) (now (self .entry) .tables) (begun-with (now (self .entry) .tables) k) ⌝ }
+        ensures after { λ _. ⌜ now (self .exit) .tables ≡ unless-fault (begin-fault (now (self .entry) .tables) k) (begun-with (now (self .entry) .tables) k) (now (self .entry) .tables) ⌝ }
         ensures source { λ _. ⌜ now (self .exit) .source ≡ now (self .entry) .source ⌝ }
         ensures shows { λ _. ⌜ StillShows (now (self .entry) .tables) (now (self .exit) .tables) ⌝ }
     {

@@ -12,7 +12,7 @@ use Rattle.faults.specs.declared.fault.Fault.{Fault}
 use Rattle.faults.specs.declared.fault.Fault.the-variants.{Source as InSource}
 use Rattle.faults.specs.declared.layers.SourceFault.{SourceFault}
 use Rattle.sources.specs.declared.offer.Offer.{Offer as Listed}
-use Rattle.sources.specs.Checks.{judged}
+use Rattle.faults.specs.Checks.{judged}
 use Rattle.sources.specs.Lists.{list-fault}
 use Rattle.sheet.specs.declared.reader.Sheet.{Sheet}
 use Rattle.sheet.specs.declared.reader.State.{State}

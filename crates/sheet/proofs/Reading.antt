@@ -12,7 +12,7 @@ use Rattle.std.proofs.shelf.Lists.{take-append-drop, length-take-le, length-dro
 use Rattle.faults.specs.declared.fault.Fault.{Fault}
 use Rattle.faults.specs.declared.layers.SheetFault.{SheetFault}
 use Rattle.sources.specs.declared.offer.Offer.{Offer as Listed}
-use Rattle.sources.specs.Checks.{judged}
+use Rattle.faults.specs.Checks.{judged}
 use Rattle.sheet.specs.declared.reader.Reader.{Reader}
 use Rattle.sheet.specs.declared.reader.State.{State}
 use Rattle.sheet.specs.declared.reader.State.the-variants.{Frame, Coarse, Body}

@@ -15,7 +15,7 @@ use Rattle.std.proofs.shelf.Tests.{cases-bool, ltb-true, lt-ltb}
 use Rattle.faults.specs.declared.fault.Fault.{Fault}
 use Rattle.faults.specs.declared.layers.SourceFault.the-variants.{TooManyOffers}
 use Rattle.sources.specs.declared.offer.Offer.{Offer as Listed}
-use Rattle.sources.specs.Checks.{judged}
+use Rattle.faults.specs.Checks.{judged}
 use Rattle.sheet.specs.declared.form.Form.{Form}
 use Rattle.sheet.specs.declared.form.Form.the-variants.{Offer}
 use Rattle.sheet.specs.declared.reader.Sheet.{Sheet}

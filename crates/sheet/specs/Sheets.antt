@@ -15,7 +15,8 @@ use Rattle.faults.specs.declared.layers.SheetFault.the-variants.{TooLong, BadFo
 use Rattle.faults.specs.declared.layers.SourceFault.{SourceFault}
 use Rattle.faults.specs.declared.layers.SourceFault.the-variants.{TooManyOffers}
 use Rattle.sources.specs.declared.offer.Offer.{Offer as Listed}
-use Rattle.sources.specs.Lists.{unless, size-fault, list-fault}
+use Rattle.faults.specs.Checks.{unless}
+use Rattle.sources.specs.Lists.{size-fault, list-fault}
 use Rattle.sources.specs.Ratios.{ratio-fault}
 use Rattle.sheet.specs.declared.form.Form.{Form}
 use Rattle.sheet.specs.declared.form.Form.the-variants.{Frame, Coarse, Offer}

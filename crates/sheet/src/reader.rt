@@ -5,7 +5,7 @@ ghost use Prim.Native.Nat.{_+_, _≤_};
 ghost use lib.ListN.{length};
 ghost use Rattle.std.specs.Results.{isOk};
 ghost use Rattle.std.specs.Vec.{made};
-ghost use Rattle.sources.specs.Checks.{judged};
+ghost use Rattle.faults.specs.Checks.{judged};
 ghost use Rattle.sheet.specs.Lines.{first-length};
 ghost use Rattle.sheet.specs.Sheets.{room-fault, length-fault, finish, sheet-of, placed, Sound};
 ghost use Rattle.sheet.specs.Readers.{slots-in, most-at, stage-at, accepted, judged-line, outcome-at, Within, Lent, Moves};

@@ -1,4 +1,3 @@
-pub mod Checks
 pub mod Lists
 pub mod Ratios
 pub mod Coarse

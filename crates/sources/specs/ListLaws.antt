@@ -19,8 +19,8 @@ use Rattle.matching.specs.Pairings.{shown-of, ground-of}
 use Rattle.matching.specs.Sums.{total}
 use Rattle.matching.specs.Lawful.{Lawful, Carries}
 use Rattle.matching.proofs.Pairs.{shown-most}
-use Rattle.sources.specs.Checks.{or-else}
-use Rattle.sources.specs.Lists.{no-offer, names, modest, first-bad, unless, size-fault, list-fault}
+use Rattle.faults.specs.Checks.{or-else, unless}
+use Rattle.sources.specs.Lists.{no-offer, names, modest, first-bad, size-fault, list-fault}
 use Rattle.sources.specs.ListRows.{list-row, list-rows, largest-saving, list-carry}
 use Rattle.sources.specs.declared.offer.Offer.{Offer}
 

@@ -9,7 +9,7 @@ use Rattle.std.specs.declared.option.Option.{Option}
 use Rattle.std.specs.declared.option.Option.the-variants.{Some, None}
 use Rattle.faults.specs.declared.layers.SourceFault.{SourceFault}
 use Rattle.faults.specs.declared.layers.SourceFault.the-variants.{TooManyMembers, TooManyOffers, BadMember, HighSaving}
-use Rattle.sources.specs.Checks.{or-else}
+use Rattle.faults.specs.Checks.{or-else, unless}
 use Rattle.sources.specs.declared.offer.Offer.{Offer}
 
 -- what is read past the end of a list
@@ -28,10 +28,6 @@ modest o = leb (o .saving) 100000
 abbrev pub first-bad : (Offer → Bool) → ℕ → List Offer → Option ℕ
 first-bad ok i [] = None
 first-bad ok i (o ∷ os) = cond (ok o) (first-bad ok (i + 1) os) (Some i)
-
--- a fault, if the test fails
-abbrev pub unless : {E : Type 0} → Bool → E → Option E
-unless b f = cond b None (Some f)
 
 abbrev pub size-fault : ℕ → Option SourceFault
 size-fault n = unless (leb n 200) (TooManyMembers n)

@@ -1,7 +1,7 @@
 // A layer over a source whose shown savings are x/N of those below, rounded down.
 ghost use mathlib.Core.Path.{_≡_};
 ghost use Prim.Native.Nat.{_≤_};
-ghost use Rattle.sources.specs.Checks.{judged, unless-fault};
+ghost use Rattle.faults.specs.Checks.{judged, unless-fault};
 ghost use Rattle.sources.specs.Coarse.{part-of, coarse-rows, coarse-carry};
 ghost use Rattle.sources.specs.CoarseLaws.{coarse-laws};
 ghost use Rattle.sources.specs.Ratios.{ratio-fault};

@@ -4,7 +4,7 @@ ghost use mathlib.Core.Bool.{false};
 ghost use mathlib.Core.List.{[]};
 ghost use Rattle.std.specs.Options.{isSome};
 ghost use Rattle.matching.specs.Rows.{row};
-ghost use Rattle.sources.specs.Checks.{judged, unless-fault};
+ghost use Rattle.faults.specs.Checks.{judged, unless-fault};
 ghost use Rattle.sources.specs.Lists.{names, modest, first-bad, size-fault, list-fault};
 ghost use Rattle.sources.specs.ListLaws.{list-laws};
 ghost use Rattle.sources.specs.ListRows.{list-row, list-rows, largest-saving, list-carry};
