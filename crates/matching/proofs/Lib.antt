@@ -1,2 +1,10 @@
 pub mod Sums
 pub mod Pairs
+pub mod Counts
+pub mod Mates
+pub mod Nodes
+pub mod Duality
+pub mod Gap
+pub mod Readings
+pub mod Finite
+pub mod Witnesses

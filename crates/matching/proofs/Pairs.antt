@@ -58,7 +58,7 @@ length-ends rs [] = refl
 length-ends rs (e ∷ es) = omega (arith, length-ends rs es)
 
 module _ (n top : ℕ) (rs : List Row) (sound : AllSound n top rs) where
-  ends-below : (es : List ℕ) → All (λ e. e < length rs) es → All (λ v. v < n) (ends rs es)
+  pub ends-below : (es : List ℕ) → All (λ e. e < length rs) es → All (λ v. v < n) (ends rs es)
   ends-below [] b = tt
   ends-below (e ∷ es) b = let s = sound e (b .0) in (s .first-in, (s .second-in, ends-below es (b .1)))
 

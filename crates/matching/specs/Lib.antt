@@ -4,3 +4,7 @@ pub mod Pairings
 pub mod Lawful
 pub mod Mates
 pub mod Slack
+pub mod State
+pub mod Kept
+pub mod Theorems
+pub mod Examples
