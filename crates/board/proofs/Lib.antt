@@ -2,5 +2,5 @@ pub mod Padding
 pub mod Keeping
 pub mod Savings
 pub mod Partners
-pub mod Unpaired
+pub mod Loose
 pub mod Slacks

@@ -16,7 +16,8 @@ use Rattle.matching.proofs.Sums.{total-nil, total-cons, total-append, below-pus
 use Rattle.board.specs.declared.saving.Saving.{Saving}
 use Rattle.board.specs.declared.saving.Saving.the-variants.{Shown, Ground}
 use Rattle.board.specs.declared.tables.Tables.{Tables}
-use Rattle.board.specs.Kept.{offered, Keeps}
+use Rattle.board.specs.States.{offered}
+use Rattle.board.specs.Kept.{Keeps}
 use Rattle.board.specs.Savings.{saving-in, saved}
 use Rattle.board.proofs.Keeping.{full, row-offered, shown-low, ground-low}
 

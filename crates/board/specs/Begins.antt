@@ -29,4 +29,6 @@ begun-with t k = record {
   rows = t .rows;
   prices = replicate 200 (2 * k * t .top);
   mates = t .mates;
+  roots = t .roots;
+  blossoms = t .blossoms;
 }

@@ -1,4 +1,5 @@
 pub mod Fresh
+pub mod States
 pub mod Kept
 pub mod Begins
 pub mod Questions

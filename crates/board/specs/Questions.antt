@@ -13,7 +13,7 @@ use Rattle.matching.specs.Pairings.{shown-of, ground-of}
 use Rattle.matching.specs.Mates.{taken, loose, partner}
 use Rattle.matching.specs.Slack.{reach}
 use Rattle.board.specs.declared.tables.Tables.{Tables}
-use Rattle.board.specs.Kept.{offered}
+use Rattle.board.specs.States.{offered}
 
 -- the offers of the board's pairing
 abbrev pub pairing : Tables → List ℕ

@@ -2,6 +2,8 @@
 ghost use mathlib.Core.Path.{_≡_};
 ghost use Rattle.board.specs.Fresh.{padded, fresh};
 ghost use Rattle.matching.specs.Rows.{row};
+ghost use Rattle.matching.specs.Sums.{below};
+use crate::tables::Blossom;
 use crate::tables::Tables;
 use matching::row::Row;
 use sources::source::Source;
@@ -33,6 +35,17 @@ fn all_rows<S: Source>(source: &S) -> [Row; 4000]
     rows
 }
 
+// Each member is a root by itself.
+fn own_roots() -> [u16; 200]
+    ensures { λ r. ⌜ r ≡ below 200 ⌝ }
+{
+    let mut roots = [0u16; 200];
+    for v in 0..200 {
+        roots[v as usize] = v;
+    }
+    roots
+}
+
 impl Tables {
     pub(crate) fn of<S: Source>(source: &S) -> Tables
         ensures { λ r. ⌜ r ≡ fresh (S·Source .size (now (source .entry))) (S·Source .rows (now (source .entry))) (S·Source .highest (now (source .entry))) ⌝ }
@@ -46,6 +59,15 @@ impl Tables {
             rows: all_rows(source),
             prices: [0; 200],
             mates: [None; 200],
+            roots: own_roots(),
+            blossoms: [Blossom {
+                used: false,
+                price: 0,
+                len: 0,
+                parts: [0; 200],
+                joins: [0; 200],
+                holds: [false; 200],
+            }; 100],
         }
     }
 }

@@ -6,12 +6,12 @@ use mathlib.Core.List.{List, [], _∷_}
 use Prim.Native.Nat.{ℕ, zero, suc, _+_, _*_, _≤_, _<_}
 use native.Mathlib.Omega.{arith}
 use lib.Dec.{eqb}
-use lib.ListN.{length}
+use lib.ListN.{length, getD}
 use Rattle.std.specs.shelf.Lists.{All}
-use Rattle.std.proofs.shelf.Tests.{eq-eqb, ne-eqb, cases-eq, cases-lt}
+use Rattle.std.proofs.shelf.Tests.{eq-eqb, ne-eqb, cases-eq, cases-lt, both-ways}
 use Rattle.matching.specs.Sums.{total, count, below}
 use Rattle.matching.specs.Pairings.{Different}
-use Rattle.matching.proofs.Sums.{total-nil, total-cons, total-add, total-mul, total-same, total-zero, total-const, total-swap, total-below-same, total-below-le, total-below-const, point, scale}
+use Rattle.matching.proofs.Sums.{total-nil, total-cons, total-add, total-mul, total-same, total-zero, total-const, total-swap, total-at-most, total-below-more, total-below-none, total-below-same, total-below-le, total-below-const, point, scale}
 
 -- a list of numbers below n, by how often each stands in it
 unfoldable pub times : ℕ → List ℕ → ℕ
@@ -98,3 +98,59 @@ different-total f c n xs fit apart least =
 
     each : (v : ℕ) → v < n → f v * times v xs + c ≤ f v + c * times v xs
     each v h = small (f v) (times v xs) (least v h) (once v xs apart)
+
+-- a list in which an element passes, and one with no more than it has elements
+pub count-at : {X : Type 0} (p : X → Bool) (xs : List X) (j : ℕ) (d : X) → j < length xs → p (getD xs j d) ≡ true → 1 ≤ count p xs
+count-at p [] j d l h = absurd (omega arith)
+count-at p (x ∷ xs) zero d l h = let here : _≡_ {A = ℕ} (cond (p x) 1 0) 1 = ap (λ b. cond b 1 0) h in omega (arith, here, total-cons (λ y. cond (p y) 1 0) x xs)
+count-at p (x ∷ xs) (suc j) d l h = omega (arith, count-at p xs j d (omega arith) h, total-cons (λ y. cond (p y) 1 0) x xs)
+
+pub count-two : {X : Type 0} (p : X → Bool) (xs : List X) (i j : ℕ) (d : X) → i < length xs → j < length xs → i ≢ j → p (getD xs i d) ≡ true → p (getD xs j d) ≡ true → 2 ≤ count p xs
+count-two p [] i j d li lj ne hi hj = absurd (omega arith)
+count-two p (x ∷ xs) zero zero d li lj ne hi hj = absurd (ne refl)
+count-two p (x ∷ xs) zero (suc j) d li lj ne hi hj =
+    let here : _≡_ {A = ℕ} (cond (p x) 1 0) 1 = ap (λ b. cond b 1 0) hi in
+    omega (arith, here, count-at p xs j d (omega arith) hj, total-cons (λ y. cond (p y) 1 0) x xs)
+count-two p (x ∷ xs) (suc i) zero d li lj ne hi hj =
+    let here : _≡_ {A = ℕ} (cond (p x) 1 0) 1 = ap (λ b. cond b 1 0) hj in
+    omega (arith, here, count-at p xs i d (omega arith) hi, total-cons (λ y. cond (p y) 1 0) x xs)
+count-two p (x ∷ xs) (suc i) (suc j) d li lj ne hi hj =
+    omega (arith, count-two p xs i j d (omega arith) (omega arith) (λ e. ne (ap suc e)) hi hj, total-cons (λ y. cond (p y) 1 0) x xs)
+
+pub count-most : {X : Type 0} (p : X → Bool) (xs : List X) → count p xs ≤ length xs
+count-most p xs = omega (arith, total-at-most (λ x. cond (p x) 1 0) 1 xs (each xs))
+  where
+    small : (b : Bool) → cond b 1 0 ≤ 1
+    small true = omega arith
+    small false = omega arith
+
+    each : (ys : List _) → All (λ x. cond (p x) 1 0 ≤ 1) ys
+    each [] = tt
+    each (y ∷ ys) = (small (p y), each ys)
+
+-- one number below n passes, and no other
+module _ (p : ℕ → Bool) where
+  count-none : (n : ℕ) → count p (below n) ≡ 0 → (u : ℕ) → u < n → p u ≡ true → ⊥
+  count-none zero h u lt t = omega arith
+  count-none (suc n) h u lt t = elim (cases-eq u n) [
+    | inl e ↦ (let here : _≡_ {A = ℕ} (cond (p n) 1 0) 1 = ap (λ b. cond b 1 0) (ap p (sym e) ∙ t) in omega (arith, here, total-below-more (λ u. cond (p u) 1 0) n))
+    | inr d ↦ count-none n (omega (arith, total-below-more (λ u. cond (p u) 1 0) n)) u (omega arith) t
+  ]
+
+  pub only-one : (n : ℕ) → count p (below n) ≡ 1 → (v : ℕ) × (v < n) × (p v ≡ true) × ((u : ℕ) → u < n → p u ≡ true → u ≡ v)
+  only-one zero h = absurd (omega (arith, total-below-none (λ u. cond (p u) 1 0)))
+  only-one (suc n) h = go (p n) refl (only-one n)
+    where
+      more : count p (below (suc n)) ≡ count p (below n) + cond (p n) 1 0
+      more = total-below-more (λ u. cond (p u) 1 0) n
+
+      go : (b : Bool) → p n ≡ b → (count p (below n) ≡ 1 → (v : ℕ) × (v < n) × (p v ≡ true) × ((u : ℕ) → u < n → p u ≡ true → u ≡ v))
+          → (v : ℕ) × (v < suc n) × (p v ≡ true) × ((u : ℕ) → u < suc n → p u ≡ true → u ≡ v)
+      go true e before =
+          let here : _≡_ {A = ℕ} (cond (p n) 1 0) 1 = ap (λ b. cond b 1 0) e in
+          let rest : count p (below n) ≡ 0 = omega (arith, h, more, here) in
+          (n, omega arith, e, λ u lt t. elim (cases-eq u n) [ inl w ↦ w | inr d ↦ absurd (count-none n rest u (omega arith) t) ])
+      go false e before =
+          let gone : _≡_ {A = ℕ} (cond (p n) 1 0) 0 = ap (λ b. cond b 1 0) e in
+          let r = before (omega (arith, h, more, gone)) in
+          (r .0, omega (arith, r .1), r .2, λ u lt t. elim (cases-eq u n) [ inl w ↦ absurd (both-ways (p n) e (ap p (sym w) ∙ t)) | inr d ↦ r .3 u (omega arith) t ])

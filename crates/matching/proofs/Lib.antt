@@ -7,4 +7,10 @@ pub mod Duality
 pub mod Gap
 pub mod Readings
 pub mod Finite
-pub mod Witnesses
+pub mod Rooted
+pub mod Nest
+pub mod Triangle
+pub mod Search
+pub mod Nesting
+pub mod Inside
+pub mod Start

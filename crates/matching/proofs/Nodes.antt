@@ -1,17 +1,16 @@
 -- Which members a node holds. Assumes nothing.
-use mathlib.Core.Path.{_≡_, refl, sym, ap, subst, fun-ext, _∙_}
-use mathlib.Core.Bool.{Bool, true, false, cond}
-use mathlib.Core.Logic.{_⊎_, _≢_, inl, inr}
-use mathlib.Core.List.{List, [], _∷_}
-use Prim.Native.Nat.{ℕ, zero, suc, _+_, _-_, _≤_, _<_}
+use mathlib.Core.Path.{_≡_, refl, sym, ap, fun-ext, _∙_}
+use mathlib.Core.Bool.{true, false}
+use mathlib.Core.Logic.{_⊎_, inl, inr}
+use Prim.Native.Nat.{ℕ, _+_, _-_, _<_}
 use native.Mathlib.Omega.{arith}
 use lib.Dec.{eqb, ltb}
 use lib.ListN.{length, getD}
 use Rattle.std.proofs.shelf.Lists.{getD-past}
-use Rattle.std.proofs.shelf.Tests.{and-parts, cases-lt, cases-eq, cond-true, cond-false, lt-ltb, le-ltb, eqb-true, eq-eqb, false≢true}
-use Rattle.matching.specs.Sums.{total, count, below}
-use Rattle.matching.specs.State.{State, Blossom, no-blossom, blossom-at, InUse, inside, node-holds, root-at}
-use Rattle.matching.specs.Kept.{Kept, Nested, Ring, Outermost, part-at, size}
+use Rattle.std.proofs.shelf.Tests.{and-parts, cases-lt, cond-true, cond-false, lt-ltb, le-ltb, eqb-true, eq-eqb, false≢true}
+use Rattle.matching.specs.Sums.{count, below}
+use Rattle.matching.specs.State.{State, Blossom, no-blossom, blossom-at, InUse, inside, node-holds}
+use Rattle.matching.specs.Kept.{Outermost, part-at, size}
 
 pub inside-used : (b : Blossom) (v : ℕ) → inside b v ≡ true → b .used ≡ true
 inside-used b v h = and-parts (b .used) (getD (b .holds) v false) h .0
@@ -20,8 +19,9 @@ module _ (s : State) where
   -- a place past the last is not in use
   pub used-known : (i : ℕ) → InUse s i → i < length (s .blossoms)
   used-known i u = elim (cases-lt i (length (s .blossoms))) [
-      inl l ↦ l
-    | inr l ↦ absurd (false≢true (sym (ap (λ (b : Blossom). b .used) (getD-past (s .blossoms) i no-blossom l)) ∙ u)) ]
+    | inl l ↦ l
+    | inr l ↦ absurd (false≢true (sym (ap (λ (b : Blossom). b .used) (getD-past (s .blossoms) i no-blossom l)) ∙ u))
+  ]
 
   pub holds-itself : (v : ℕ) → v < 200 → node-holds s v v ≡ true
   holds-itself v l = cond-true (ltb v 200) (eqb v v) (inside (blossom-at s (v - 200)) v) (lt-ltb v 200 l) ∙ eq-eqb v v refl
@@ -34,8 +34,9 @@ module _ (s : State) where
   -- a node that holds a member is that member, or a blossom
   pub holds-cases : (p v : ℕ) → node-holds s p v ≡ true → (p ≡ v) ⊎ ((i : ℕ) × (p ≡ 200 + i) × (inside (blossom-at s i) v ≡ true))
   holds-cases p v h = elim (cases-lt p 200) [
-      inl l ↦ inl (eqb-true p v (sym (cond-true (ltb p 200) (eqb p v) (inside (blossom-at s (p - 200)) v) (lt-ltb p 200 l)) ∙ h))
-    | inr l ↦ inr (p - 200, omega arith, sym (cond-false (ltb p 200) (eqb p v) (inside (blossom-at s (p - 200)) v) (le-ltb p 200 l)) ∙ h) ]
+    | inl l ↦ inl (eqb-true p v (sym (cond-true (ltb p 200) (eqb p v) (inside (blossom-at s (p - 200)) v) (lt-ltb p 200 l)) ∙ h))
+    | inr l ↦ inr (p - 200, omega arith, sym (cond-false (ltb p 200) (eqb p v) (inside (blossom-at s (p - 200)) v) (le-ltb p 200 l)) ∙ h)
+  ]
 
   pub size-inside : (i : ℕ) → size s (200 + i) ≡ count (inside (blossom-at s i)) (below (s .members))
   size-inside i = ap (λ p. count p (below (s .members))) (fun-ext (holds-inside i))

@@ -9,12 +9,12 @@ use native.Mathlib.Nat.{mul-add, mul-zero, mul-suc}
 use lib.Dec.{eqb}
 use lib.ListN.{length, getD}
 use Rattle.std.specs.Iters.{counting}
-use Rattle.std.specs.shelf.Lists.{All, kept-by, sumBy}
+use Rattle.std.specs.shelf.Lists.{All, kept-by}
 use Rattle.std.proofs.shelf.Counted.{length-counting, getD-counting}
 use Rattle.std.proofs.shelf.Elements.{all-from-getD}
 use Rattle.std.proofs.shelf.Sums.{sumBy-cons, sumBy-append, sumBy-le}
 use Rattle.std.proofs.shelf.Tests.{eq-eqb, ne-eqb, cases-eq}
-use Rattle.matching.specs.Sums.{total, count, below}
+use Rattle.matching.specs.Sums.{total, below}
 
 module _ {X : Type 0} where
   pub total-nil : (f : X → ℕ) → total f [] ≡ 0
@@ -135,3 +135,12 @@ point f x n lt = go n lt
 pub scale : (c : ℕ) (b : Bool) → cond b c 0 ≡ c * cond b 1 0
 scale c true = omega arith
 scale c false = omega arith
+
+-- one term less
+pub total-below-less : (f g : ℕ → ℕ) (v n : ℕ) → v < n → f v < g v → ((u : ℕ) → u < n → f u ≤ g u) → total f (below n) < total g (below n)
+total-below-less f g v zero lt h all = absurd (omega arith)
+total-below-less f g v (suc n) lt h all = elim (cases-eq v n) [
+  | inl e ↦ (let here : f n < g n = subst (λ u. f u < g u) e h in
+      omega (arith, here, total-below-more f n, total-below-more g n, total-below-le f g n (λ u l. all u (omega arith))))
+  | inr d ↦ omega (arith, all n (omega arith), total-below-more f n, total-below-more g n, total-below-less f g v n (omega arith) h (λ u l. all u (omega arith)))
+]

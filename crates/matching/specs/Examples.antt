@@ -139,9 +139,19 @@ pub record NestReads : Type 0 where
   pub loose : loose-in nest ≡ 1
   pub pairing : pairing-in nest ≡ 0 ∷ 4 ∷ []
 
--- what every state keeps can be kept: with a blossom in use, and with a blossom that is a part of another
-abbrev pub KeptShrunk : Type 0
-KeptShrunk = Kept shrunk × InUse shrunk 0
+-- what every state keeps holds from before begin to floor 0, with a blossom in use at the end; not after a sixth adjust
+pub record KeptWalk : Type 0 where
+  pub before : Kept fresh
+  pub at-start : Kept started
+  pub after-five : Kept lowered
+  pub sixth : Kept too-low → ⊥
+  pub after-augment : Kept augmented
+  pub after-in-out : Kept tightened
+  pub after-shrink : Kept shrunk
+  pub after-out : Kept priced
+  pub at-end : Kept finished
+  pub in-use : InUse shrunk 0 × InUse priced 0 × InUse finished 0
 
+-- it holds with a blossom that is a part of another
 abbrev pub KeptNest : Type 0
 KeptNest = Kept nest × InUse nest 0 × InUse nest 1 × (part-at (blossom-at nest 1) 0 ≡ 200)

@@ -11,7 +11,7 @@ use Rattle.matching.specs.Mates.{mate}
 use Rattle.std.specs.declared.option.Option.the-variants.{Some, None}
 use Rattle.matching.specs.Sums.{total, count}
 use Rattle.matching.specs.State.{State, k-in, weight, price-at, root-at, blossom-at, InUse, inside, spans, pairing-in, loose-in, gap-in, slack-in}
-use Rattle.matching.specs.Kept.{Kept, Sized, Begun, met, size}
+use Rattle.matching.specs.Kept.{Kept, Sized, Begun, Ring, part-at, met, size}
 
 -- W of a list of offers
 abbrev pub weight-of : State → List ℕ → ℕ
@@ -46,6 +46,11 @@ OwnPairing = (s : State) → Kept s → Pairing (s .rows) (pairing-in s)
 
 abbrev pub OwnSize : Type 0
 OwnSize = (s : State) → Kept s → 2 * length (pairing-in s) + loose-in s ≡ s .members
+
+-- a part holds fewer members than its blossom: it follows from the rings alone
+abbrev pub PartsSmaller : Type 0
+PartsSmaller = (s : State) (i j : ℕ) → AllSound (s .members) (s .top) (s .rows) → ((h : ℕ) → InUse s h → Ring s (blossom-at s h)) → InUse s i →
+    j < length (blossom-at s i .parts) → size s (part-at (blossom-at s i) j) < size s (200 + i)
 
 -- all members of a blossom lie in one root
 abbrev pub OneRoot : Type 0

@@ -1,10 +1,10 @@
-// The worked states: what the definitions say of them, and that what every state keeps can be kept.
-ghost use Rattle.matching.specs.Examples.{TriangleReads, NestReads, KeptShrunk, KeptNest};
+// The worked states: what the definitions say of them, and that they keep what every state keeps.
+ghost use Rattle.matching.specs.Examples.{TriangleReads, NestReads, KeptWalk, KeptNest};
 
 pub fn worked_states() -> u8
     ensures triangle { λ _. ⌜ TriangleReads ⌝ }
     ensures nest { λ _. ⌜ NestReads ⌝ }
-    ensures shrunk { λ _. ⌜ KeptShrunk ⌝ }
+    ensures walk { λ _. ⌜ KeptWalk ⌝ }
     ensures nested { λ _. ⌜ KeptNest ⌝ }
 {
     0

@@ -5,7 +5,7 @@ ghost use lib.ListN.{length};
 ghost use Rattle.matching.specs.State.{State, pairing-in, loose-in};
 ghost use Rattle.matching.specs.Kept.{Kept};
 ghost use Rattle.matching.specs.Slack.{reach};
-ghost use Rattle.matching.specs.Theorems.{lead, WeakDuality, Gap, TrueSlack, Ratio, OwnPairing, OwnSize};
+ghost use Rattle.matching.specs.Theorems.{lead, WeakDuality, Gap, TrueSlack, Ratio, OwnPairing, OwnSize, PartsSmaller, OneRoot, OneBare, OwnInside, MostInside, KeptAtStart};
 use crate::pairing::most_pairs;
 use crate::pairing::most_shown;
 
@@ -50,4 +50,24 @@ pub fn own_pairs(members: u32, free: u32) -> u32
     ensures sizes { λ _. ⌜ OwnSize ⌝ }
 {
     members.saturating_sub(free) / 2
+}
+
+// How many offers a pairing has at most inside a blossom that holds so many members; the state's own pairing has as many.
+pub fn most_inside(held: u32) -> u32
+    ensures value { λ r. ⌜ r ≡ held / 2 ⌝ }
+    ensures own { λ _. ⌜ OwnInside ⌝ }
+    ensures most { λ _. ⌜ MostInside ⌝ }
+    ensures bare { λ _. ⌜ OneBare ⌝ }
+    ensures smaller { λ _. ⌜ PartsSmaller ⌝ }
+    ensures root { λ _. ⌜ OneRoot ⌝ }
+{
+    held / 2
+}
+
+// The floor and every price at begin, in ticks.
+pub fn start_price(k: u16, top: u32) -> u64
+    ensures value { λ r. ⌜ r ≡ 2 * k * top ⌝ }
+    ensures kept { λ _. ⌜ KeptAtStart ⌝ }
+{
+    2 * k as u64 * top as u64
 }

@@ -3,7 +3,7 @@ use native.Mathlib.Omega.{arith}
 use borrow.Author.Needs.{needs}
 use Rattle.matching.specs.Mates.{mate}
 use Rattle.board.proofs.Keeping.{few}
-use Rattle.board.proofs.Unpaired.{is-none-by, loose-none, loose-yes, loose-no}
+use Rattle.board.proofs.Loose.{is-none-by, loose-none, loose-yes, loose-no}
 use Rattle.board.proofs.tables.Tables.loose.Needs as need
 use Rattle.board.proofs.tables.Tables.loose.Needs.{then-is-none, else-is-none}
 

@@ -1,4 +1,4 @@
--- The members that are loose, counted, and what a board without pairs has. Assumes nothing.
+-- The members that are loose, counted one by one. Assumes nothing.
 use mathlib.Core.Path.{_≡_, refl, sym, ap, _∙_}
 use mathlib.Core.Bool.{Bool, true, false, cond, not}
 use mathlib.Core.List.{List, [], _∷_}
@@ -37,22 +37,3 @@ module _ (ms : List (Option ℕ)) where
 
   pub loose-no : (v count : ℕ) → count ≡ loose v ms → is-none (mate ms v) ≡ false → count ≡ loose (v + 1) ms
   loose-no v count i h = omega (arith, i, loose-more v, ap {B = ℕ} (λ b. cond b 1 0) h)
-
-  module _ (all : (v : ℕ) → is-none (mate ms v) ≡ true) where
-    pub all-loose : (n : ℕ) → loose n ms ≡ n
-    all-loose zero = loose-none
-    all-loose (suc n) = total-below-more free n ∙ omega (arith, all-loose n, ap {B = ℕ} (λ b. cond b 1 0) (all n))
-
-    none-some : (o : Option ℕ) (e : ℕ) → is-none o ≡ true → is-some o e ≡ false
-    none-some None e h = refl
-    none-some (Some d) e h = let z : _≡_ {A = ℕ} 0 1 = cc in absurd (omega arith)
-
-    none-kept : (rs : List Row) (es : List ℕ) → kept-by (paired rs ms) es ≡ []
-    none-kept rs [] = refl
-    none-kept rs (e ∷ es) =
-        ap (λ b. cond b (e ∷ kept-by (paired rs ms) es) (kept-by (paired rs ms) es)) (none-some (mate ms _) e (all _))
-        ∙ none-kept rs es
-
-    pub none-taken : (rs : List Row) → taken rs ms ≡ []
-    unfolding taken
-    none-taken rs = none-kept rs (below (length rs))
