@@ -6,3 +6,6 @@ pub mod Questions
 pub mod Savings
 pub mod Truth
 pub mod Released
+pub mod Labels
+pub mod Moves
+pub mod Adjusts

@@ -1,6 +1,10 @@
 // A board over a source: the source is taken by value, so that one pile serves one board.
 ghost use mathlib.Core.Path.{_≡_};
+ghost use mathlib.Core.Bool.{true};
+ghost use Rattle.std.specs.Results.{isErr};
 ghost use Rattle.faults.specs.Checks.{judged, unless-fault};
+ghost use Rattle.steps.specs.Adjust.{adjust-fault, adjusted};
+ghost use Rattle.board.specs.States.{state};
 ghost use Rattle.board.specs.Begins.{begin-fault, begun-with};
 ghost use Rattle.board.specs.Fresh.{fresh};
 ghost use Rattle.board.specs.Kept.{Keeps};
@@ -48,6 +52,19 @@ impl<S: Source + Drop> Board<S> {
     {
         self.tables.check_begin(k)?;
         self.tables.begin(k);
+        Ok(())
+    }
+
+    // Moves the prices by a label for each member: 0 none, 1 out, 2 in.
+    pub fn adjust(&mut self, labels: &[u8]) -> Result<(), BoardFault>
+        ensures value { λ r. ⌜ r ≡ judged (adjust-fault (state (now (self .entry) .tables)) (now (labels .entry))) ⌝ }
+        ensures after { λ _. ⌜ state (now (self .exit) .tables) ≡ unless-fault (adjust-fault (state (now (self .entry) .tables)) (now (labels .entry))) (adjusted (state (now (self .entry) .tables)) (now (labels .entry))) (state (now (self .entry) .tables)) ⌝ }
+        ensures refused { λ r. ⌜ (isErr r ≡ true → now (self .exit) .tables ≡ now (self .entry) .tables) ⌝ }
+        ensures source { λ _. ⌜ now (self .exit) .source ≡ now (self .entry) .source ⌝ }
+        ensures shows { λ _. ⌜ StillShows (now (self .entry) .tables) (now (self .exit) .tables) ⌝ }
+    {
+        let common = self.tables.check_adjust(labels)?;
+        self.tables.adjust(labels, &common);
         Ok(())
     }
 

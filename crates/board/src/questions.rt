@@ -30,7 +30,7 @@ impl Saving {
 
 impl Tables {
     // Whether an offer pairs its members.
-    fn is_paired(&self, offer: usize) -> bool
+    pub(crate) fn is_paired(&self, offer: usize) -> bool
         requires there { ⌜ offer < now self .offers ⌝ }
         requires kept { ⌜ Keeps (now self) ⌝ }
         ensures { λ r. ⌜ r ≡ paired (offered (now (self .entry))) (now (self .entry) .mates) offer ⌝ }

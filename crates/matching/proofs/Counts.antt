@@ -1,14 +1,14 @@
 -- How often a number stands in a list, and sums over different numbers below n. Assumes nothing.
 use mathlib.Core.Path.{_≡_, refl, sym, ap, subst, fun-ext, _∙_}
 use mathlib.Core.Bool.{Bool, true, false, cond}
-use mathlib.Core.Logic.{_≢_, _⊎_, inl, inr}
+use mathlib.Core.Logic.{_≢_, inl, inr}
 use mathlib.Core.List.{List, [], _∷_}
 use Prim.Native.Nat.{ℕ, zero, suc, _+_, _*_, _≤_, _<_}
 use native.Mathlib.Omega.{arith}
 use lib.Dec.{eqb}
 use lib.ListN.{length, getD}
 use Rattle.std.specs.shelf.Lists.{All}
-use Rattle.std.proofs.shelf.Tests.{eq-eqb, ne-eqb, cases-eq, cases-lt, cases-bool, both-ways}
+use Rattle.std.proofs.shelf.Tests.{eq-eqb, ne-eqb, cases-eq, cases-lt, both-ways}
 use Rattle.matching.specs.Sums.{total, count, below}
 use Rattle.matching.specs.Pairings.{Different}
 use Rattle.matching.proofs.Sums.{total-nil, total-cons, total-add, total-mul, total-same, total-zero, total-const, total-swap, total-at-most, total-below-more, total-below-none, total-below-same, total-below-le, total-below-const, point, scale}

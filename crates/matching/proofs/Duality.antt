@@ -3,7 +3,7 @@ use mathlib.Core.Path.{_≡_, refl, sym, ap, fun-ext, _∙_}
 use mathlib.Core.Bool.{Bool, true, false, cond, not, _&&_}
 use mathlib.Core.Logic.{_⊎_, inl, inr}
 use mathlib.Core.List.{List, [], _∷_}
-use Prim.Native.Nat.{ℕ, _+_, _-_, _*_, _≤_, _<_}
+use Prim.Native.Nat.{ℕ, _+_, _*_, _≤_, _<_}
 use native.Mathlib.Omega.{arith}
 use native.Mathlib.Nat.{mul-add, mul-sub, mul-comm, mul-le-mul-left}
 use lib.Dec.{eqb}
@@ -19,7 +19,7 @@ use Rattle.matching.specs.Rows.{row, AllSound}
 use Rattle.matching.specs.Sums.{total, count, below}
 use Rattle.matching.specs.State.{State, Blossom, no-blossom, k-in, first-of, second-of, weight, price-at, blossom-at, inside, spans, around, yz, paired-in, pairing-in, loose-in}
 use Rattle.matching.specs.Kept.{Kept, met, bare}
-use Rattle.matching.specs.Theorems.{weight-of, lead, WeakDuality, OwnPairing, OwnSize}
+use Rattle.matching.specs.Theorems.{weight-of, WeakDuality, OwnPairing, OwnSize}
 use Rattle.matching.proofs.Sums.{total-nil, total-cons, total-add, total-mul, total-le, total-swap, total-below-same, total-below-le, total-below-const, total-zero, total-const, scale}
 use Rattle.matching.proofs.Counts.{different-total, different-from, times, once-below}
 use Rattle.matching.proofs.Pairs.{ends-below, length-ends}

@@ -1,9 +1,9 @@
 -- From the weights to the shown and the ground savings. Assumes nothing.
-use mathlib.Core.Path.{_≡_, refl, sym, ap, subst, fun-ext, _∙_}
+use mathlib.Core.Path.{_≡_, refl, ap, subst, fun-ext, _∙_}
 use mathlib.Core.Bool.{Bool, true, false, cond}
 use mathlib.Core.Logic.{_≢_, inl, inr}
 use mathlib.Core.List.{List, [], _∷_}
-use Prim.Native.Nat.{ℕ, _+_, _-_, _*_, _/_, _≤_, _<_, min}
+use Prim.Native.Nat.{ℕ, _+_, _-_, _*_, _/_, _≤_, _<_}
 use native.Mathlib.Omega.{arith}
 use native.Mathlib.Nat.{mul-sub, mul-comm, mul-assoc, mul-le-mul-left}
 use lib.Dec.{ltb}
@@ -16,12 +16,12 @@ use Rattle.std.proofs.shelf.Elements.{all-weaker, all-kept-by, kept-by-passes}
 use Rattle.std.proofs.shelf.Tests.{cases-lt, cases-bool, ltb-true, ltb-false}
 use Rattle.matching.specs.declared.row.Row.{Row}
 use Rattle.matching.specs.Rows.{row}
-use Rattle.matching.specs.Pairings.{Pairing, Different, ends, shown-of, ground-of}
+use Rattle.matching.specs.Pairings.{Pairing, Different, ends, shown-of}
 use Rattle.matching.specs.Slack.{reach}
 use Rattle.matching.specs.Sums.{total}
 use Rattle.matching.specs.State.{State, or-zero, k-in, pairing-in, loose-in, gap-in}
 use Rattle.matching.specs.Kept.{Kept}
-use Rattle.matching.specs.Theorems.{weight-of, Gap, TrueSlack, Ratio}
+use Rattle.matching.specs.Theorems.{Gap, TrueSlack, Ratio}
 use Rattle.matching.proofs.Sums.{total-le, total-const, total-kept}
 use Rattle.matching.proofs.Pairs.{pairs-few, shown-most}
 use Rattle.matching.proofs.Duality.{balance, weight-shown, own-pairing}

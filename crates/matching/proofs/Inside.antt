@@ -1,18 +1,13 @@
 -- The pairs inside a blossom. Assumes nothing.
-use mathlib.Core.Path.{_≡_, refl, sym, ap, _∙_}
-use mathlib.Core.Bool.{Bool, true, false, cond, not, _&&_}
-use mathlib.Core.List.{List}
-use Prim.Native.Nat.{ℕ, _+_, _*_, _/_, _≤_, _<_}
+use mathlib.Core.Bool.{not, _&&_}
 use native.Mathlib.Omega.{arith}
-use Rattle.std.proofs.shelf.Bits.{le-div}
 use Rattle.std.proofs.shelf.Tests.{and-from, and-parts, not-true, not-from-false}
 use Rattle.matching.specs.Mates.{mate}
-use Rattle.matching.specs.Sums.{total, count, below}
-use Rattle.matching.specs.State.{State, blossom-at, inside, spans, pairing-in}
-use Rattle.matching.specs.Kept.{Kept, met, size}
-use Rattle.matching.specs.Theorems.{Bare, OneBare, OwnInside, MostInside}
+use Rattle.matching.specs.State.{blossom-at, inside}
+use Rattle.matching.specs.Kept.{met}
+use Rattle.matching.specs.Theorems.{OneBare, OwnInside, MostInside}
 use Rattle.matching.proofs.Counts.{only-one}
-use Rattle.matching.proofs.Nodes.{inside-used, size-inside}
+use Rattle.matching.proofs.Nodes.{size-inside}
 use Rattle.matching.proofs.Duality.{pair-spans, own-spans}
 
 pub one-bare : OneBare

@@ -2,7 +2,6 @@
 use mathlib.Core.Path.{_≡_, refl, sym, ap, subst, _∙_}
 use mathlib.Core.Bool.{Bool, true, false, cond}
 use mathlib.Core.Logic.{inl, inr}
-use mathlib.Core.List.{List}
 use Prim.Native.Nat.{ℕ, _+_, _<_}
 use native.Mathlib.Omega.{arith}
 use lib.Dec.{eqb}
@@ -12,7 +11,7 @@ use Rattle.std.specs.declared.option.Option.the-variants.{Some, None}
 use Rattle.std.specs.shelf.Lists.{All}
 use Rattle.std.proofs.shelf.Elements.{all-kept-by, kept-by-passes}
 use Rattle.std.proofs.shelf.Tests.{eqb-true, eqb-false, eq-eqb, cases-bool, both-ways}
-use Rattle.matching.specs.Rows.{row, AllSound}
+use Rattle.matching.specs.Rows.{AllSound}
 use Rattle.matching.specs.Mates.{is-some, mate, taken}
 use Rattle.matching.specs.Sums.{total, below}
 use Rattle.matching.specs.State.{State, first-of, second-of, paired-in, pairing-in}

@@ -2,15 +2,14 @@
 use mathlib.Core.Path.{_≡_, refl, sym, ap, subst, _∙_}
 use mathlib.Core.Bool.{Bool, true, false, cond}
 use mathlib.Core.Logic.{_⊎_, _≢_, inl, inr}
-use mathlib.Core.List.{List}
-use Prim.Native.Nat.{ℕ, zero, suc, _+_, _*_, _/_, _≤_, _<_}
+use Prim.Native.Nat.{ℕ, zero, suc, _+_, _≤_, _<_}
 use native.Mathlib.Omega.{arith}
 use lib.ListN.{length, getD}
-use Rattle.std.proofs.shelf.Tests.{cases-bool, cases-eq, and-from, and-parts, not-true, not-from-false, both-ways}
+use Rattle.std.proofs.shelf.Tests.{cases-bool, cases-eq, both-ways}
 use Rattle.matching.specs.Rows.{AllSound}
-use Rattle.matching.specs.Sums.{total, count, below}
-use Rattle.matching.specs.State.{State, Blossom, first-of, second-of, blossom-at, InUse, inside, node-holds, root-at}
-use Rattle.matching.specs.Kept.{Kept, Ring, Nested, Outermost, part-at, size}
+use Rattle.matching.specs.Sums.{count, below}
+use Rattle.matching.specs.State.{State, first-of, second-of, blossom-at, InUse, inside, node-holds, root-at}
+use Rattle.matching.specs.Kept.{Ring, Nested, Outermost, part-at, size}
 use Rattle.matching.specs.Theorems.{OneRoot, PartsSmaller}
 use Rattle.matching.proofs.Sums.{length-below, total-below-less}
 use Rattle.matching.proofs.Counts.{count-at, count-two, count-most}

@@ -1,17 +1,16 @@
 -- Which members a node holds. Assumes nothing.
-use mathlib.Core.Path.{_≡_, refl, sym, ap, subst, fun-ext, _∙_}
-use mathlib.Core.Bool.{Bool, true, false, cond}
-use mathlib.Core.Logic.{_⊎_, _≢_, inl, inr}
-use mathlib.Core.List.{List, [], _∷_}
-use Prim.Native.Nat.{ℕ, zero, suc, _+_, _-_, _≤_, _<_}
+use mathlib.Core.Path.{_≡_, refl, sym, ap, fun-ext, _∙_}
+use mathlib.Core.Bool.{true, false}
+use mathlib.Core.Logic.{_⊎_, inl, inr}
+use Prim.Native.Nat.{ℕ, _+_, _-_, _<_}
 use native.Mathlib.Omega.{arith}
 use lib.Dec.{eqb, ltb}
 use lib.ListN.{length, getD}
 use Rattle.std.proofs.shelf.Lists.{getD-past}
-use Rattle.std.proofs.shelf.Tests.{and-parts, cases-lt, cases-eq, cond-true, cond-false, lt-ltb, le-ltb, eqb-true, eq-eqb, false≢true}
-use Rattle.matching.specs.Sums.{total, count, below}
-use Rattle.matching.specs.State.{State, Blossom, no-blossom, blossom-at, InUse, inside, node-holds, root-at}
-use Rattle.matching.specs.Kept.{Kept, Nested, Ring, Outermost, part-at, size}
+use Rattle.std.proofs.shelf.Tests.{and-parts, cases-lt, cond-true, cond-false, lt-ltb, le-ltb, eqb-true, eq-eqb, false≢true}
+use Rattle.matching.specs.Sums.{count, below}
+use Rattle.matching.specs.State.{State, Blossom, no-blossom, blossom-at, InUse, inside, node-holds}
+use Rattle.matching.specs.Kept.{Outermost, part-at, size}
 
 pub inside-used : (b : Blossom) (v : ℕ) → inside b v ≡ true → b .used ≡ true
 inside-used b v h = and-parts (b .used) (getD (b .holds) v false) h .0

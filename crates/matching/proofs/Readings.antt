@@ -1,6 +1,5 @@
 -- What the definitions say of the worked states. Assumes nothing.
-use mathlib.Core.Path.{_≡_, refl}
-use Prim.Native.Nat.{ℕ, _+_, _<_}
+use mathlib.Core.Path.{refl}
 use native.Mathlib.Omega.{arith}
 use Rattle.matching.specs.Sums.{total, below}
 use Rattle.matching.specs.Mates.{taken}

@@ -1,18 +1,17 @@
 -- States with no blossom in use. Assumes nothing.
-use mathlib.Core.Path.{_≡_, refl, sym, ap, subst, _∙_}
-use mathlib.Core.Bool.{Bool, true, false}
+use mathlib.Core.Path.{_≡_, sym, ap, subst, _∙_}
+use mathlib.Core.Bool.{true}
 use mathlib.Core.Logic.{inl, inr}
 use Prim.Native.Nat.{ℕ, _+_, _*_, _≤_, _<_}
 use native.Mathlib.Omega.{arith}
 use native.Mathlib.Nat.{mul-assoc, mul-le-mul-left, zero-mul}
 use lib.ListN.{length}
-use Rattle.std.specs.declared.option.Option.{Option}
 use Rattle.std.specs.declared.option.Option.the-variants.{Some, None}
 use Rattle.matching.specs.Mates.{mate}
-use Rattle.matching.specs.Rows.{row, AllSound}
-use Rattle.matching.specs.State.{State, or-zero, k-in, first-of, second-of, weight, price-at, root-at, blossom-at, InUse, inside, node-holds, yz, around, paired-in}
+use Rattle.matching.specs.Rows.{AllSound}
+use Rattle.matching.specs.State.{State, or-zero, k-in, first-of, weight, price-at, root-at, blossom-at, InUse, node-holds, yz, paired-in}
 use Rattle.matching.specs.Kept.{Kept, Sized, Unbegun, Begun, Mated, Floored, Nested}
-use Rattle.matching.specs.Theorems.{AtStart, KeptAtStart}
+use Rattle.matching.specs.Theorems.{KeptAtStart}
 use Rattle.matching.proofs.Mates.{some-from}
 use Rattle.matching.proofs.Finite.{none-some}
 use Rattle.matching.proofs.Nodes.{inside-used, holds-itself, holds-cases}

@@ -9,12 +9,12 @@ use native.Mathlib.Nat.{mul-add, mul-zero, mul-suc}
 use lib.Dec.{eqb}
 use lib.ListN.{length, getD}
 use Rattle.std.specs.Iters.{counting}
-use Rattle.std.specs.shelf.Lists.{All, kept-by, sumBy}
+use Rattle.std.specs.shelf.Lists.{All, kept-by}
 use Rattle.std.proofs.shelf.Counted.{length-counting, getD-counting}
 use Rattle.std.proofs.shelf.Elements.{all-from-getD}
 use Rattle.std.proofs.shelf.Sums.{sumBy-cons, sumBy-append, sumBy-le}
 use Rattle.std.proofs.shelf.Tests.{eq-eqb, ne-eqb, cases-eq}
-use Rattle.matching.specs.Sums.{total, count, below}
+use Rattle.matching.specs.Sums.{total, below}
 
 module _ {X : Type 0} where
   pub total-nil : (f : X → ℕ) → total f [] ≡ 0

@@ -1,26 +1,25 @@
 -- Every state of the worked triangle keeps what every state keeps. Assumes nothing.
 use mathlib.Core.Path.{_≡_, refl, sym, _∙_}
 use mathlib.Core.Bool.{true}
-use mathlib.Core.Logic.{_⊎_, _≢_, inl, inr}
+use mathlib.Core.Logic.{_≢_, inl, inr}
 use mathlib.Core.List.{List, [], _∷_}
 use Prim.Native.Nat.{ℕ, _+_, _*_, _%_, _≤_, _<_}
 use native.Mathlib.Omega.{arith}
 use lib.ListN.{length, getD}
 use Rattle.std.specs.declared.option.Option.{Option}
-use Rattle.std.specs.declared.option.Option.the-variants.{Some, None}
+use Rattle.std.specs.declared.option.Option.the-variants.{Some}
 use Rattle.std.proofs.shelf.Tests.{false≢true}
 use Rattle.matching.specs.declared.row.Row.{Row}
 use Rattle.matching.specs.Mates.{mate}
 use Rattle.matching.specs.Rows.{AllSound}
 use Rattle.matching.specs.Sums.{total, below}
-use Rattle.matching.specs.State.{State, Blossom, no-blossom, weight, price-at, root-at, blossom-at, InUse, yz}
-use Rattle.matching.specs.Kept.{Kept, Sized, Mated, Fair, Ring, Nested, part-at}
-use Rattle.matching.specs.Theorems.{AtStart}
-use Rattle.matching.specs.Examples.{offer, triangle, ring, fresh, started, lowered, too-low, augmented, tightened, shrunk, priced, finished, KeptWalk}
+use Rattle.matching.specs.State.{State, weight, root-at, blossom-at, InUse, yz}
+use Rattle.matching.specs.Kept.{Kept, Mated, Fair, Ring, Nested, part-at}
+use Rattle.matching.specs.Examples.{offer, triangle, ring, fresh, too-low, KeptWalk}
 use Rattle.matching.proofs.Nodes.{Part}
 use Rattle.matching.proofs.Nesting.{parts-smaller}
 use Rattle.matching.proofs.Rooted.{only-root, parent-by, parity-by}
-use Rattle.matching.proofs.Start.{Plain, kept-plain, kept-at-start}
+use Rattle.matching.proofs.Start.{kept-plain, kept-at-start}
 use Rattle.matching.proofs.Finite.{each, Of, of-some, some-is, none-some, each-used, held-known}
 
 abbrev offers : List Row
