@@ -35,14 +35,14 @@ module _ {X : Type 0} (d : X) (n : ℕ) (f : ℕ → X) (xs : List X) where
     long = length-set ys i y ∙ h .long;
     places = λ v less. ⊎-elim
         (λ (same : v ≡ i).
-            ap (λ k. getD (set ys i y) k d) same
-            ∙ getD-set-same ys i y d (omega (arith, h .long))
-            ∙ e
-            ∙ ap f (sym same)
-            ∙ ap (λ b. cond b (f v) (getD xs v d)) (sym (lt-ltb v (i + 1) (omega arith))))
+        ap (λ k. getD (set ys i y) k d) same
+        ∙ getD-set-same ys i y d (omega (arith, h .long))
+        ∙ e
+        ∙ ap f (sym same)
+        ∙ ap (λ b. cond b (f v) (getD xs v d)) (sym (lt-ltb v (i + 1) (omega arith))))
         (λ (apart : v ≡ i → ⊥).
-            let still : ltb v i ≡ ltb v (i + 1) = grind (arith, tells) in
-            getD-set-other ys i v y d apart ∙ h .places v less ∙ ap (λ b. cond b (f v) (getD xs v d)) still)
+        let still : ltb v i ≡ ltb v (i + 1) = grind (arith, tells) in
+        getD-set-other ys i v y d apart ∙ h .places v less ∙ ap (λ b. cond b (f v) (getD xs v d)) still)
         (cases-eq v i);
   }
 
@@ -55,12 +55,12 @@ module _ {X : Type 0} (d : X) (n : ℕ) (f : ℕ → X) (xs : List X) where
   partly-all i ys h rest =
       ext-getD d ys (map f (below n)) (h .long ∙ sym (length-map (below n) f ∙ length-below n))
       (λ v l. let less : v < n = omega (arith, h .long) in
-          h .places v less
-          ∙ ⊎-elim
-          (λ (in′ : v < i). ap (λ b. cond b (f v) (getD xs v d)) (lt-ltb v i in′))
-          (λ (out : i ≤ v). ap (λ b. cond b (f v) (getD xs v d)) (le-ltb v i out) ∙ sym (rest v less out))
-          (cases-lt v i)
-          ∙ sym (getD-map f (below n) v 0 d (omega (arith, length-below n)) ∙ ap f (getD-below n v 0 less)))
+      h .places v less
+      ∙ ⊎-elim
+      (λ (in′ : v < i). ap (λ b. cond b (f v) (getD xs v d)) (lt-ltb v i in′))
+      (λ (out : i ≤ v). ap (λ b. cond b (f v) (getD xs v d)) (le-ltb v i out) ∙ sym (rest v less out))
+      (cases-lt v i)
+      ∙ sym (getD-map f (below n) v 0 d (omega (arith, length-below n)) ∙ ap f (getD-below n v 0 less)))
 
 abbrev pub new-price : Tables → List ℕ → ℕ → ℕ
 new-price t ls v = moved (label-at ls v) (getD (t .prices) v 0)

@@ -61,19 +61,20 @@ module _ (t : Tables) (keeps : Keeps t) (ls common : List ℕ) (ready : Ready (s
               let b = h .kept .begun k e in
               let four : 4 * k ≤ 128 = omega (arith, b .small) in
               subst (λ (b : Option ℕ). 4 * or-zero b * t .top ≤ 128000) (sym e) (omega (arith, mul-le-mul four (b .top)))
+
       by : Held t → place t i .price ≤ 128000
       by h =
           ⊎-elim
           (λ (used : blossom-at (state t) i .used ≡ true).
-              omega (arith, h .kept .small .blossoms i used, limit h, ap (λ b. b .price) (at-place i l)))
+          omega (arith, h .kept .small .blossoms i used, limit h, ap (λ b. b .price) (at-place i l)))
           (λ (free : blossom-at (state t) i .used ≡ false).
-              let none = root-label-none (state t) ls (200 + i) (λ v lt r.
-                  let held = subst (λ p. node-holds (state t) p v ≡ true) r (h .kept .nested .root-holds v lt) in
-                  let used = used-inside (blossom-at (state t) i) v (sym (node-blossom (state t) i v) ∙ held) in
-                  let z : _≡_ {A = ℕ} 0 1 = cc in
-                  omega arith)
-              in
-              absurd (some (ready .roots (200 + i) (omega arith) ∙ none)))
+          let none = root-label-none (state t) ls (200 + i) (λ v lt r.
+          let held = subst (λ p. node-holds (state t) p v ≡ true) r (h .kept .nested .root-holds v lt) in
+          let used = used-inside (blossom-at (state t) i) v (sym (node-blossom (state t) i v) ∙ held) in
+          let z : _≡_ {A = ℕ} 0 1 = cc in
+          omega arith)
+          in
+          absurd (some (ready .roots (200 + i) (omega arith) ∙ none)))
           (cases-bool (blossom-at (state t) i .used))
 
   pub adjust-held : (t′ : Tables) → t′ ≡ all-moved t ls common → Keeps t′

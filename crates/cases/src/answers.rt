@@ -45,7 +45,10 @@ fn refusals_at_a_line() -> Result<(), Fail> {
         (b"(frame 2 1)\n", b"(refused 1 2 2)\n"),
         (b"(frame 2 1)\n(coarse 1 1)", b"(refused 1 2 2)\n"),
         (b"(coarse 1 1)\n", b"(refused 1 2 1)\n"),
-        (b"(frame 2 1)\n(coarse 1 1)\n(frame 2 1)\n", b"(refused 1 2 3)\n"),
+        (
+            b"(frame 2 1)\n(coarse 1 1)\n(frame 2 1)\n",
+            b"(refused 1 2 3)\n",
+        ),
         (b"(frame 02 1)\n(coarse 1 1)\n", b"(refused 1 2 1)\n"),
         (b"(frame 2  1)\n(coarse 1 1)\n", b"(refused 1 2 1)\n"),
         (b"(frame 2 1000000)\n", b"(refused 1 2 1)\n"),
@@ -75,9 +78,18 @@ fn refusals_after_the_last_line() -> Result<(), Fail> {
             b"(frame 2 1)\n(coarse 1 1)\n(offer (0 1) 1)\n(offer (0 1) 1)\n(offer (0 1) 1)\n(offer (0 9) 1)\n",
             b"(refused 2 12 3)\n",
         ),
-        (b"(frame 2 40)\n(coarse 1 1)\n(offer (0 1) 3)\n", b"(refused 3 23 40)\n"),
-        (b"(frame 2 0)\n(coarse 1 1)\n(offer (0 1) 1001)\n", b"(refused 3 23 0)\n"),
-        (b"(frame 2 1)\n(coarse 1 1)\n(offer (0 1) 1001)\n", b"(refused 3 24 1001)\n"),
+        (
+            b"(frame 2 40)\n(coarse 1 1)\n(offer (0 1) 3)\n",
+            b"(refused 3 23 40)\n",
+        ),
+        (
+            b"(frame 2 0)\n(coarse 1 1)\n(offer (0 1) 1001)\n",
+            b"(refused 3 23 0)\n",
+        ),
+        (
+            b"(frame 2 1)\n(coarse 1 1)\n(offer (0 1) 1001)\n",
+            b"(refused 3 24 1001)\n",
+        ),
     ];
     for (sheet, text) in cases {
         says(sheet, text)?;

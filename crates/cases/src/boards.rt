@@ -5,6 +5,8 @@ use faults::code::CodeDebug;
 use faults::code::CodePartialEq;
 use faults::layers::BoardFault;
 use faults::layers::BoardFaultDebug;
+use lengths::length_source::LengthSource;
+use lengths::length_source::LengthSourceSource;
 use sources::coarse::Coarse;
 use sources::coarse::CoarseSource;
 use sources::list_source::ListSource;
@@ -81,7 +83,12 @@ fn nobody() -> Result<(), Fail> {
 // Savings of 99, 100 and 199 over a hundredth, and half of that again.
 #[test]
 fn pile() -> Result<(), Fail> {
-    let offers = [offer(0, 1, 99), offer(2, 3, 100), offer(4, 5, 199), offer(0, 5, 400)];
+    let offers = [
+        offer(0, 1, 99),
+        offer(2, 3, 100),
+        offer(4, 5, 199),
+        offer(0, 5, 400),
+    ];
     let list = ListSource::new(6, &offers);
     let coarse = Coarse::new(Coarse::new(list, 1000, 100_000), 1, 2);
     let mut board = Board::new(coarse);
@@ -92,4 +99,63 @@ fn pile() -> Result<(), Fail> {
     check_eq(board.floor(), 32)?;
     check_eq(board.slack(), 1200)?;
     check_eq(board.release().ground, 0)
+}
+
+// Several offenders: the lowest member, then the lowest offer is told, and nothing moves.
+#[test]
+fn adjusts() -> Result<(), Fail> {
+    let offers = [
+        offer(2, 3, 1),
+        offer(4, 5, 6),
+        offer(0, 1, 2),
+        offer(1, 4, 6),
+        offer(3, 5, 5),
+    ];
+    let mut board = Board::new(ListSource::new(6, &offers));
+    refused(board.adjust(&[1; 6]), 21, 0)?;
+    board.begin(1)?;
+    check_eq(board.floor(), 12)?;
+    refused(board.adjust(&[1; 5]), 30, 5)?;
+    refused(board.adjust(&[1; 7]), 30, 7)?;
+    refused(board.adjust(&[1, 1, 3, 1, 0, 2]), 30, 2)?;
+    refused(board.adjust(&[1, 0, 1, 1, 255, 1]), 30, 1)?;
+    // W of the offers is 2, 12, 4, 12 and 10: at prices of 5 the second is at W - 2.
+    for _ in 0..7 {
+        board.adjust(&[1; 6])?;
+    }
+    check_eq(board.floor(), 5)?;
+    check_eq(board.price(5)?, 5)?;
+    refused(board.adjust(&[1; 6]), 33, 1)?;
+    refused(board.adjust(&[1, 1, 1, 1, 2, 1]), 30, 4)?;
+    check_eq(board.floor(), 5)?;
+    check_eq(board.price(0)?, 5)?;
+    // P × top is 3 × 6, and (2 × 3 + 5 × 6)/2 is the same.
+    check_eq(board.slack(), 18)
+}
+
+// Without offers the floor comes down to 0, and stays.
+#[test]
+fn floors() -> Result<(), Fail> {
+    let mut board = Board::new(ListSource::new(0, &[]));
+    board.begin(3)?;
+    check_eq(board.floor(), 0)?;
+    refused(board.adjust(&[]), 31, 0)?;
+    refused(board.adjust(&[1]), 30, 1)
+}
+
+// Lengths under a coarse layer: savings of 2000, 0 and 0, shown as 200, 0 and 0.
+#[test]
+fn lengths_on_a_board() -> Result<(), Fail> {
+    let lengths = [1900, 1900, 2500];
+    let stock = [3000, 4000, 6000];
+    let mut board = Board::new(Coarse::new(LengthSource::new(&lengths, &stock, 4), 1, 10));
+    check_eq(board.members(), 3)?;
+    // The top is 600 of 6000; one pair: (10 × 600 + 9)/1, cut to 6000.
+    check_eq(board.slack(), 6000)?;
+    board.begin(2)?;
+    check_eq(board.floor(), 2400)?;
+    check_eq(board.slack(), 6000)?;
+    let plan = board.release();
+    check_eq(plan.members, 3)?;
+    check_eq(plan.loose, 3)
 }

@@ -5,15 +5,14 @@ use mathlib.Core.List.{List}
 use Prim.Native.Nat.{ℕ, _≤_, _<_}
 use native.Mathlib.Omega.{arith}
 use lib.Dec.{leb}
-use lib.ListN.{length, getD}
-use Rattle.std.specs.declared.option.Option.{Option}
+use lib.ListN.{length}
 use Rattle.std.specs.declared.option.Option.the-variants.{Some, None}
 use Rattle.std.specs.shelf.Maps.{nth}
 use Rattle.std.proofs.shelf.Lists.{getD-past}
 use Rattle.std.proofs.shelf.Maps.{nth-getD}
 use Rattle.std.proofs.shelf.Tests.{cases-lt, le-leb, cond-true}
 use Rattle.matching.specs.Rows.{row, no-row}
-use Rattle.lengths.specs.Numbering.{offers-among, number, twos, twos-at, number-at}
+use Rattle.lengths.specs.Numbering.{number, twos, twos-at, number-at}
 use Rattle.lengths.specs.NumberingLaws.{length-twos}
 use Rattle.lengths.specs.Lengths.{length-row, length-rows}
 use Rattle.lengths.specs.LengthLaws.{row-numbered, length-length-rows}

@@ -3,7 +3,7 @@
 use mathlib.Core.Path.{_≡_, refl, sym, ap, subst, fun-ext, _∙_}
 use mathlib.Core.Bool.{Bool, true, false, cond, _&&_}
 use mathlib.Core.List.{List, [], _∷_, map}
-use Prim.Native.Nat.{ℕ, zero, suc, _+_, _-_, _*_, _/_, _≤_, _<_}
+use Prim.Native.Nat.{ℕ, zero, suc, _+_, _-_, _*_, _≤_, _<_}
 use native.Mathlib.Nat.{mul-le-mul}
 use native.Mathlib.Omega.{arith}
 use lib.Dec.{leb}
@@ -15,7 +15,6 @@ use Rattle.std.proofs.shelf.Lists.{getD-map}
 use Rattle.std.proofs.shelf.Tests.{true≢false, and-parts, leb-true}
 use Rattle.faults.specs.declared.layers.SourceFault.{SourceFault}
 use Rattle.faults.specs.declared.layers.SourceFault.the-variants.{TooManyMembers, BadStock, BadLength, WideCut}
-use Rattle.matching.specs.declared.row.Row.{Row}
 use Rattle.matching.specs.Rows.{row, no-row, Sound, AllSound}
 use Rattle.matching.specs.Pairings.{shown-of, ground-of}
 use Rattle.matching.specs.Sums.{total}
@@ -24,7 +23,7 @@ use Rattle.matching.proofs.Pairs.{shown-most}
 use Rattle.faults.specs.Checks.{or-else, unless}
 use Rattle.sources.specs.ListRows.{list-carry}
 use Rattle.sources.specs.ListLaws.{most-low}
-use Rattle.lengths.specs.Stock.{largest-stock, saving-of}
+use Rattle.lengths.specs.Stock.{largest-stock}
 use Rattle.lengths.specs.StockLaws.{saving-low}
 use Rattle.lengths.specs.Numbering.{offers-among, number, twos}
 use Rattle.lengths.specs.NumberingLaws.{length-twos, number-low, twos-number, named}

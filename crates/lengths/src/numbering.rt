@@ -1,6 +1,8 @@
 // Offers for every two of up to 89 members, numbered row by row: the row of member v has an offer with each u below v.
 ghost use mathlib.Core.Path.{_≡_};
 ghost use Prim.Native.Nat.{ℕ, _<_, _≤_};
+ghost use mathlib.Core.Bool.{true};
+ghost use Rattle.std.specs.Options.{isSome};
 ghost use Rattle.std.specs.declared.option.Option.the-variants.{Some};
 ghost use Rattle.lengths.specs.Numbering.{offers-among, number, twos-at, number-at};
 
@@ -30,6 +32,7 @@ pub fn number_of(u: usize, v: usize) -> Option<usize>
 // The two members of an offer among so many members, by going down from the last row; none past the last offer or over 89 members.
 pub fn members_of(members: usize, offer: usize) -> Option<(usize, usize)>
     ensures value { λ r. ⌜ r ≡ twos-at members offer ⌝ }
+    ensures every { λ r. ⌜ (members ≤ 89 → offer < offers-among members → isSome r ≡ true) ⌝ }
     ensures back { λ r. ⌜ ((u v : ℕ) → r ≡ Some (u, v) → (u < v) × (v < members) × (number-at u v ≡ Some offer)) ⌝ }
 {
     if members > MOST_LENGTHS || offer >= offers_among(members) {

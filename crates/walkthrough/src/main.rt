@@ -82,6 +82,13 @@ fn main(rt: LibcRuntime) -> io::Result<()> {
     show_answer(&rt, "begin with k = 1", board.begin(1))?;
     show_board(&rt, &board)?;
     show_answer(&rt, "begin with k = 1", board.begin(1))?;
+    for _ in 0..5 {
+        show_answer(&rt, "adjust out, out, out", board.adjust(&[1, 1, 1]))?;
+    }
+    show_board(&rt, &board)?;
+    show_answer(&rt, "adjust out, out, out", board.adjust(&[1, 1, 1]))?;
+    show_answer(&rt, "adjust out, in, out", board.adjust(&[1, 2, 1]))?;
+    show_board(&rt, &board)?;
     show_partner(&rt, "partner of 2", board.partner(2))?;
     show_partner(&rt, "partner of 3", board.partner(3))?;
     let plan = board.release();

@@ -1,9 +1,9 @@
-use mathlib.Core.Path.{_≡_, sym, ap, _∙_}
-use Prim.Native.Nat.{ℕ, suc, _+_, _-_, _≤_, _<_}
+use mathlib.Core.Path.{_≡_, refl}
+use Prim.Native.Nat.{ℕ, _-_, _≤_}
 use native.Mathlib.Omega.{arith}
 use borrow.Author.Needs.{needs}
 use Rattle.std.specs.declared.option.Option.{Option}
-use Rattle.std.specs.declared.option.Option.the-variants.{Some, None}
+use Rattle.std.specs.declared.option.Option.the-variants.{Some}
 use Rattle.lengths.specs.Numbering.{offers-among, number}
 use Rattle.lengths.specs.NumberingLaws.{among-more}
 use Rattle.lengths.proofs.Members.{at-number, too-many, past-last, in-row, these}
@@ -18,6 +18,10 @@ returns-then-members-gt-MOST-LENGTHS c =
       value = elim (c .then-members-gt-MOST-LENGTHS .came) [
         | then-members-gt-MOST-LENGTHS·by·then-members-gt-MOST-LENGTHS w ↦ too-many n e (w .if-members-gt-MOST-LENGTHS .taken)
         | then-members-gt-MOST-LENGTHS·by·else-members-gt-MOST-LENGTHS·then-offer-offers-among w ↦ past-last n e (omega (arith, w .offers-among .ensures, w .if-offer-offers-among .taken))
+      ];
+      every = λ few l. elim (c .then-members-gt-MOST-LENGTHS .came) [
+        | then-members-gt-MOST-LENGTHS·by·then-members-gt-MOST-LENGTHS w ↦ absurd (omega (arith, w .if-members-gt-MOST-LENGTHS .taken))
+        | then-members-gt-MOST-LENGTHS·by·else-members-gt-MOST-LENGTHS·then-offer-offers-among w ↦ absurd (omega (arith, w .offers-among .ensures, w .if-offer-offers-among .taken))
       ];
       back = λ u v same. let z : _≡_ {A = ℕ} 0 1 = cc in absurd (omega arith);
     }
@@ -38,5 +42,6 @@ returns c =
     let told = at-number n x v e few (at .0) (at .1) is in
     record {
       value = search needs;
+      every = λ _ _. refl;
       back = λ u w got. let two : _≡_ {A = Option (ℕ × ℕ)} (Some (x, v)) (Some (u, w)) = search needs in these n e x v u w two few (at .0) (at .1) is;
     }

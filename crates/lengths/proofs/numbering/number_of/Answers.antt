@@ -1,8 +1,6 @@
 use borrow.Author.Needs.{needs}
-use mathlib.Core.Path.{_≡_, ap}
-use Prim.Native.Nat.{_+_}
-use Rattle.std.specs.declared.option.Option.the-variants.{Some}
-use Rattle.lengths.specs.Numbering.{offers-among, number}
+use mathlib.Core.Path.{_≡_}
+use Rattle.lengths.specs.Numbering.{number}
 use Rattle.lengths.proofs.Members.{at-number, number-is}
 use Rattle.lengths.proofs.numbering.number_of.Needs as need
 

@@ -1,3 +1,4 @@
+use borrow.Author.Needs.{needs}
 use Prim.Native.Nat.{_+_}
 use mathlib.Core.Path.{_≡_, sym, subst, _∙_}
 use native.Mathlib.Omega.{arith}
@@ -19,7 +20,7 @@ returns-then-s-length c =
     let s = getD ss i 0 in
     let step = at-drop-more (λ xs. stock-of xs l) ss i 0 (omega arith) in
     let e = taken (stock-of (drop i ss) l) (stock-of ss l) (Some s) (stock-of (drop (i + 1) ss) l) (leb l s) (c .loop-s .inv) step (le-leb l s (omega arith)) in
-    record { value = e; smallest = λ rising. subst (Smallest ss l) (sym e) (first-smallest ss l rising) }
+    record { value = search needs; smallest = λ rising. subst (Smallest ss l) (sym e) (first-smallest ss l rising) }
 
 pub loop-s-again : need.loop-s-again
 loop-s-again c =
