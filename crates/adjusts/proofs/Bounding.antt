@@ -1,27 +1,24 @@
 -- The first offender of a search, and how an adjust moves the prices and the offers of the tables. Assumes nothing.
-use Rattle.std.proofs.Common.{◌≡◌, ℕ, zero, suc, ◌+◌, ◌-◌, ◌*◌, ◌<◌, ◌≤◌, Bool, true, false, cond, not, ◌&&◌, ◌||◌, eqb, ltb, leb, ◌≢◌, List, [], map, length, get_or, Some, None, Ok, Err, Option, sym, refl, ap, ◌∙◌, subst, inl, inr, mul-le-mul, arith}
+use Rattle.std.proofs.Common.{◌≡◌, ℕ, ◌+◌, ◌-◌, ◌*◌, ◌<◌, ◌≤◌, Bool, true, false, cond, not, ◌&&◌, ◌||◌, eqb, ltb, leb, ◌≢◌, List, length, get_or, Some, None, Ok, Err, Option, sym, refl, ap, ◌∙◌, subst, inl, inr, arith}
 use mathlib.Core.Bool.{Bool-set}
 use mathlib.Core.Logic.{∥∥₁_elim}
-use native.Mathlib.Bridge.{le_prop}
-use Rattle.std.specs.Option.{option_map}
-use Rattle.std.proofs.lemmas.List.{get_or-map, get_or_past, length-map}
-use Rattle.std.proofs.lemmas.Bool.{and_from, and_left, and_right, and_parts, cases_Bool, cases_eq, cases_lt, cond-true, cond-false, cond_both, le-leb, lt-leb, lt-ltb, le-ltb, ltb-true, not_from_true, not_from_false, or_cases, or_from, or_left, or_right}
+use Rattle.std.proofs.lemmas.Bool.{and_from, and_parts, cases_Bool, cond_both, le-leb, ltb-true, not_from_true, not_from_false, or_cases, or_left, or_right}
 use Rattle.faults.specs.Checks.{judged}
 use Rattle.faults.specs.declared.layers.BoardFault.TheVariants.{InAtZero}
 use Rattle.matching.specs.declared.row.Row.{Row}
 use Rattle.matching.specs.Mates.{paired}
-use Rattle.matching.specs.Rows.{row, Sound}
-use Rattle.matching.specs.State.{State, Blossom, no_blossom, or_zero, first_of, second_of, weight, price_at, root_at, blossom_at, InUse, inside, node_holds, yz, paired_in}
+use Rattle.matching.specs.Rows.{row}
+use Rattle.matching.specs.State.{State, Blossom, or_zero, first_of, second_of, weight, price_at, root_at, blossom_at, InUse, inside, node_holds, yz, paired_in}
 use Rattle.matching.specs.Kept.{Kept, Ring, Between, part_at, part_after}
 use Rattle.matching.proofs.Nesting.{part_inside, one_root}
-use Rattle.steps.specs.Searches.{first_from, first_below}
+use Rattle.steps.specs.Searches.{first_below}
 use Rattle.steps.specs.Adjust.{label_at, label_fault, zero_fault, root_label, moved, adjusted, among, joins_parts, in_bounds}
 use Rattle.steps.proofs.Searches.{among_place, cases_below, some_not_none, judged_none, judged_found}
 use Rattle.steps.proofs.Offers.{inner_offers_stay, outer_offers_move}
 use Rattle.steps.proofs.Labels.{by_label, adjusted_alike}
 use Rattle.tables.specs.declared.tables.Blossom as tables
 use Rattle.tables.specs.declared.tables.Tables.{Tables}
-use Rattle.tables.specs.States.{offered, blossom_of, state, no_place}
+use Rattle.tables.specs.States.{offered, state, no_place}
 use Rattle.adjusts.specs.Labels.{RootLabels}
 use Rattle.tables.specs.Kept.{Held, Keeps}
 use Rattle.tables.proofs.Keeping.{row_offered, blossom_there}

@@ -1,21 +1,15 @@
 -- The tables of labels, filled member by member. Assumes nothing.
-use Rattle.std.proofs.Common.{◌≡◌, ℕ, zero, suc, ◌+◌, ◌-◌, ◌<◌, ◌≤◌, Bool, true, false, cond, not, ◌&&◌, ◌||◌, eqb, ltb, ◌⊎◌, List, length, get_or, set, replicate, is_some, Some, None, Ok, Err, Option, sym, refl, ap, ◌∙◌, subst, inl, inr, arith, length-set}
-use mathlib.Core.Logic.{∥∥₁_elim}
-use native.Mathlib.Bridge.{le_prop}
+use Rattle.std.proofs.Common.{◌≡◌, ℕ, zero, suc, ◌+◌, ◌-◌, ◌<◌, ◌≤◌, Bool, true, false, cond, not, ◌&&◌, ◌||◌, eqb, ltb, List, length, get_or, set, replicate, is_some, Some, None, Ok, Err, Option, sym, refl, ap, ◌∙◌, subst, inl, inr, arith, length-set}
 use Rattle.std.specs.Option.{option_map}
 use Rattle.std.proofs.lemmas.List.{get_or-set_same, get_or-set_other, get_or-replicate}
-use Rattle.std.proofs.lemmas.Bool.{both_ways, cases_Bool, cases_eq, cases_lt, eq-eqb, ne_eqb, eqb-true, and_from, and_cases, and_left, and_right, or_parts, or_from, or_left, or_right, not-false, not_from_true, not_from_false, lt-ltb, le-ltb, cond-true, cond-false}
+use Rattle.std.proofs.lemmas.Bool.{both_ways, cases_Bool, cases_eq, eq-eqb, ne_eqb, eqb-true, and_from, and_cases, and_left, and_right, or_parts, not-false, cond-true, cond-false}
 use Rattle.faults.specs.Checks.{judged, or_else, unless}
 use Rattle.faults.specs.declared.layers.BoardFault.TheVariants.{BadLabels}
-use Rattle.matching.specs.State.{State, root_at, blossom_at, node_holds}
+use Rattle.matching.specs.State.{State, root_at}
 use Rattle.matching.specs.Mates.{mate, is_none}
 use Rattle.steps.specs.Searches.{first_from, first_below, some_below}
 use Rattle.steps.specs.Adjust.{label_at, label_of, offends, label_fault}
 use Rattle.steps.proofs.Searches.{below_none, cases_below, some_below_true, some_below_false}
-use Rattle.steps.proofs.Roots.{used_inside, node_blossom, used_low}
-use Rattle.tables.specs.declared.tables.Tables.{Tables}
-use Rattle.tables.specs.States.{state}
-use Rattle.tables.specs.Kept.{Held, Keeps}
 use Rattle.adjusts.specs.Labels.{RootLabels, wrong, Mislabelled}
 
 -- searches, step by step

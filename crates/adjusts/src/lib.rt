@@ -1,4 +1,6 @@
 // When an adjust is a step: a check that only reads.
+#![tactic(auto)]
+
 ghost use Rattle.std.specs.Prelude.{◌≡◌};
 ghost use Rattle.tables.specs.States.{state};
 ghost use Rattle.adjusts.specs.Adjusts.{Judges};

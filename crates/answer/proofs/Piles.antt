@@ -1,10 +1,9 @@
 -- The pile of a sheet shows what the definitions say, and so does the board over it. Assumes nothing.
-use Rattle.std.proofs.Common.{◌≡◌, ℕ, ◌+◌, ◌≤◌, List, [], length, Some, None, Ok, Err, Option, Result, sym, refl, ap, ◌∙◌, subst, arith}
+use Rattle.std.proofs.Common.{◌≡◌, ℕ, List, [], Some, None, Ok, Err, Option, sym, refl, ap, ◌∙◌, subst, arith}
 use lib.ListN.{length-map}
-use Rattle.faults.specs.declared.fault.Fault.{Fault}
 use Rattle.faults.specs.declared.layers.BoardFault.{BoardFault}
 use Rattle.matching.specs.declared.row.Row.{Row}
-use Rattle.matching.specs.Pairings.{ends, Pairing, ground_of}
+use Rattle.matching.specs.Pairings.{Pairing}
 use Rattle.sources.specs.declared.offer.Offer.{Offer}
 use Rattle.faults.specs.Checks.{judged, unless_fault}
 use Rattle.sources.specs.Lists.{list_fault}
@@ -21,7 +20,7 @@ use Rattle.board.specs.Released.{Released}
 use Rattle.board.specs.Truth.{Shows, Bounds}
 use Rattle.sheet.specs.declared.reader.Sheet.{Sheet}
 use Rattle.sheet.specs.Sheets.{Sound}
-use Rattle.answer.specs.Answers.{pile_rows, pile_top, pile_carry, new_board, begun_board, Planned, Begins}
+use Rattle.answer.specs.Answers.{pile_rows, pile_top, pile_carry, new_board, begun_board, Planned}
 
 -- a pairing of the listed offers is one of those that the coarse layer shows
 coarse_pairing : (x N : ℕ) (rs : List Row) (es : List ℕ) → Pairing rs es → Pairing (coarse_rows x N rs) es

@@ -1,4 +1,6 @@
 // From the bytes of a sheet to the bytes of its answer.
+#![tactic(auto)]
+
 ghost use Rattle.std.specs.Prelude.{◌≡◌, ℕ, List, length, Result};
 ghost use Rattle.report.specs.Texts.{written, write_result};
 ghost use Rattle.sheet.specs.Sheets.{Sound, sheet_of, placed};

@@ -1,5 +1,5 @@
 -- A root with a loose member, looked for member by member. Assumes nothing.
-use Rattle.std.proofs.Common.{◌≡◌, ℕ, ◌<◌, Bool, true, false, not, ◌&&◌, eqb, List, is_some, sym, refl, ap, ◌∙◌, arith}
+use Rattle.std.proofs.Common.{◌≡◌, ℕ, ◌<◌, Bool, true, false, ◌&&◌, eqb, is_some, sym, ap}
 use Rattle.matching.specs.State.{State, root_at}
 use Rattle.matching.specs.Mates.{mate, is_none}
 use Rattle.steps.proofs.Searches.{some_below_true, none_below}

@@ -1,20 +1,18 @@
 -- What the tables hold of nodes, rings and offers, and that it lies in their bounds. Assumes nothing.
-use Rattle.std.proofs.Common.{◌≡◌, ℕ, zero, suc, ◌+◌, ◌-◌, ◌%◌, ◌<◌, ◌≤◌, true, false, ◌&&◌, eqb, List, [], ◌∷◌, map, length, get_or, drop, sym, refl, ap, ◌∙◌, subst, inl, inr, ⊎_elim, arith}
+use Rattle.std.proofs.Common.{◌≡◌, ℕ, zero, suc, ◌+◌, ◌-◌, ◌<◌, ◌≤◌, true, false, ◌&&◌, eqb, List, [], ◌∷◌, length, get_or, drop, sym, refl, ap, ◌∙◌, subst, inl, inr, ⊎_elim, arith}
 use mathlib.Core.Logic.{∥∥₁_elim}
 use native.Mathlib.Bridge.{le_prop}
-use lib.ListN.{length-map}
-use Rattle.std.proofs.lemmas.List.{get_or-map, get_or_past, get_or-take, length-take-le, take_all}
+use Rattle.std.proofs.lemmas.List.{get_or-take}
 use Rattle.std.proofs.lemmas.Bool.{cases_lt, cond_both}
-use Rattle.matching.specs.State.{State, no_blossom, first_of, second_of, root_at, blossom_at, InUse, inside, node_holds}
+use Rattle.matching.specs.State.{State, first_of, second_of, root_at, blossom_at, InUse, inside, node_holds}
 use Rattle.matching.specs.Kept.{Node}
-use Rattle.matching.proofs.Nodes.{inside_used, used_known, holds_cases}
+use Rattle.matching.proofs.Nodes.{inside_used, used_known}
 use Rattle.paths.specs.Bare.{Link, links, ring}
 use Rattle.paths.specs.Walk.{across}
 use Rattle.paths.proofs.Lists.{bit_of, crowd_find}
 use Rattle.paths.proofs.Rings.{rings_of, place_of, holds_blossom, length_links}
-use Rattle.tables.specs.declared.tables.Blossom.{Blossom}
 use Rattle.tables.specs.declared.tables.Tables.{Tables}
-use Rattle.tables.specs.States.{blossom_of, state, no_place, place}
+use Rattle.tables.specs.States.{state, place}
 use Rattle.tables.specs.Kept.{Held, Keeps}
 use Rattle.tables.proofs.Keeping.{blossom_there, root_low, ring_low, parts_there, joins_there}
 use Rattle.augments.specs.Laying.{link_at, turned}

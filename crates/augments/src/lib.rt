@@ -1,4 +1,6 @@
 // Augment on the tables of a board: when it is a step, and the mates after it.
+#![tactic(auto)]
+
 ghost use Rattle.tables.specs.States.{state};
 ghost use Rattle.augments.specs.Steps.{Augments};
 

@@ -1,4 +1,6 @@
 // Shrink and dissolve on the tables of a board: when each is a step, and what it would write there.
+#![tactic(auto)]
+
 ghost use Rattle.tables.specs.States.{state};
 ghost use Rattle.blossoms.specs.Steps.{Shrinks, Dissolves};
 

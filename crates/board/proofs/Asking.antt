@@ -8,8 +8,8 @@ use Rattle.matching.specs.State.{State, Blossom, no_blossom, blossom_at, InUse}
 use Rattle.matching.specs.Kept.{part_at}
 use Rattle.matching.proofs.Finite.{none_some, some_is}
 use Rattle.tables.specs.declared.tables.Tables.{Tables}
-use Rattle.tables.specs.States.{state, blossom_of, place}
-use Rattle.tables.specs.Kept.{Held, Keeps}
+use Rattle.tables.specs.States.{state, place}
+use Rattle.tables.specs.Kept.{Keeps}
 use Rattle.tables.proofs.Keeping.{blossom_there, ring_low, parts_there}
 use Rattle.board.specs.Blossoms.{of_blossom, link_of}
 

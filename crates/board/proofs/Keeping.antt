@@ -1,27 +1,23 @@
 -- The facts that every board keeps, one by one, and that making and beginning a board keep them. Assumes nothing.
-use Rattle.std.proofs.Common.{◌≡◌, ℕ, ◌+◌, ◌*◌, ◌<◌, ◌≤◌, Bool, true, false, cond, ltb, List, map, length, get_or, take, replicate, Some, None, Ok, Err, Option, Result, sym, refl, ap, ◌∙◌, subst, ⊎_elim, mul-le-mul, zero-mul, arith, get_or-take}
-use mathlib.Core.Logic.{∥∥₁_elim, ∥∥₁_map}
-use native.Mathlib.Bridge.{le_prop}
-use native.Mathlib.Nat.{ℕ_set}
+use Rattle.std.proofs.Common.{◌≡◌, ℕ, ◌*◌, ◌<◌, ◌≤◌, Bool, true, false, cond, ltb, List, map, length, get_or, replicate, None, Ok, Err, Result, sym, refl, ap, ◌∙◌, subst, ⊎_elim, zero-mul, arith}
+use mathlib.Core.Logic.{∥∥₁_map}
 use lib.ListN.{length-map}
 use Rattle.std.proofs.lemmas.List.{get_or-replicate, get_or_past, get_or-map, length-replicate}
 use Rattle.std.proofs.lemmas.Bool.{cases_lt, ltb-true}
 use Rattle.faults.specs.declared.layers.BoardFault.{BoardFault}
 use Rattle.faults.specs.declared.layers.BoardFault.TheVariants.{NoMember}
 use Rattle.matching.specs.declared.row.Row.{Row}
-use Rattle.matching.specs.Rows.{no_row, row, Sound, AllSound}
+use Rattle.matching.specs.Rows.{AllSound}
 use Rattle.matching.specs.Lawful.{Lawful}
-use Rattle.matching.specs.Mates.{mate}
-use Rattle.matching.specs.State.{no_blossom, or_zero, InUse}
+use Rattle.matching.specs.State.{no_blossom}
 use Rattle.matching.specs.Kept.{Begun}
 use Rattle.matching.specs.Theorems.{AtStart}
 use Rattle.matching.proofs.Finite.{none_some, some_is}
 use Rattle.matching.proofs.Nodes.{holds_itself}
 use Rattle.matching.proofs.Sums.{length_below, getD_below}
 use Rattle.matching.proofs.Start.{kept_at_start}
-use Rattle.tables.specs.declared.tables.Blossom.{Blossom}
 use Rattle.tables.specs.declared.tables.Tables.{Tables}
-use Rattle.board.specs.Fresh.{unused, padded, fresh}
+use Rattle.board.specs.Fresh.{unused, fresh}
 use Rattle.tables.specs.States.{offered, blossom_of, state}
 use Rattle.tables.specs.Kept.{Held, Keeps}
 use Rattle.board.specs.Begins.{begun_with}

@@ -1,8 +1,6 @@
 -- The members that are loose, counted one by one. Assumes nothing.
-use Rattle.std.proofs.Common.{◌≡◌, ℕ, zero, suc, ◌+◌, ◌<◌, ◌≤◌, Bool, true, false, cond, not, List, [], ◌∷◌, length, is_some as option_is_some, Some, None, filter, Option, sym, refl, ap, ◌∙◌, add-one, arith}
-use Rattle.matching.specs.declared.row.Row.{Row}
-use Rattle.matching.specs.Sums.{below}
-use Rattle.matching.specs.Mates.{mate, is_some, is_none, paired, taken, loose}
+use Rattle.std.proofs.Common.{◌≡◌, ℕ, ◌+◌, true, false, cond, List, Option, ap, ◌∙◌, add-one, arith}
+use Rattle.matching.specs.Mates.{mate, is_none, loose}
 use Rattle.matching.proofs.Sums.{total_below_none, total_below_more}
 
 module _ (ms : List (Option ℕ)) where

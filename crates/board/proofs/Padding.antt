@@ -1,5 +1,5 @@
 -- Filling a table of 4,000 places with the offers, one by one. Assumes nothing.
-use Rattle.std.proofs.Common.{◌≡◌, ℕ, suc, ◌+◌, ◌-◌, ◌<◌, ◌≤◌, List, [], ◌∷◌, ◌++◌, length, get_or, take, set, replicate, sym, refl, ap, ◌∙◌, append_assoc, arith, length-take-le}
+use Rattle.std.proofs.Common.{◌≡◌, ℕ, suc, ◌+◌, ◌-◌, ◌<◌, ◌≤◌, List, [], ◌∷◌, ◌++◌, length, take, set, replicate, sym, refl, ap, ◌∙◌, append_assoc, arith, length-take-le}
 use lib.ListN.{length-replicate}
 use Rattle.std.proofs.lemmas.List.{take_more, take_all, set_at, length-append, take_at}
 use Rattle.matching.specs.declared.row.Row.{Row}

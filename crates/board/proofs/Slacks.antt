@@ -1,9 +1,8 @@
 -- No pairing saves more ground millimetres than the board's pairing and the slack. Assumes nothing.
-use Rattle.std.proofs.Common.{◌≡◌, ℕ, ◌+◌, ◌≤◌, List, sym, refl, subst}
+use Rattle.std.proofs.Common.{ℕ, List, sym, refl, subst}
 use mathlib.Core.Logic.{∥∥₁_elim}
 use native.Mathlib.Bridge.{le_prop}
 use Rattle.matching.specs.declared.row.Row.{Row}
-use Rattle.matching.specs.Pairings.{ground_of}
 use Rattle.matching.specs.Lawful.{Lawful, Carries}
 use Rattle.matching.proofs.Gap.{true_slack}
 use Rattle.tables.specs.declared.tables.Tables.{Tables}

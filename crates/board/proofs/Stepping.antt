@@ -1,21 +1,19 @@
 -- An accepted adjust finds room for its prices, and leaves a board that keeps what every board keeps. Assumes nothing.
-use Rattle.std.proofs.Common.{◌≡◌, ℕ, ◌+◌, ◌*◌, ◌<◌, ◌≤◌, true, false, ◌≢◌, List, length, get_or, Some, None, Option, sym, refl, ap, ◌∙◌, subst, ⊎_elim, mul-le-mul, arith}
+use Rattle.std.proofs.Common.{◌≡◌, ℕ, ◌+◌, ◌*◌, ◌<◌, ◌≤◌, true, false, List, length, Some, None, Option, sym, refl, ap, ◌∙◌, subst, ⊎_elim, mul-le-mul, arith}
 use mathlib.Core.Logic.{∥∥₁_elim, ∥∥₁_map}
 use native.Mathlib.Bridge.{le_prop}
 use native.Mathlib.Nat.{ℕ_set}
 use lib.ListN.{length-map}
 use Rattle.std.proofs.lemmas.List.{get_or-map}
 use Rattle.std.proofs.lemmas.Bool.{cases_Bool}
-use Rattle.matching.specs.State.{no_blossom, or_zero, k_in, root_at, blossom_at, node_holds, inside}
+use Rattle.matching.specs.State.{no_blossom, or_zero, k_in, blossom_at, node_holds}
 use Rattle.matching.specs.Kept.{Kept}
-use Rattle.steps.specs.Adjust.{root_label, adjust_fault, adjusted}
-use Rattle.steps.proofs.Adjust.{Accepted, accepted, adjust_keeps}
+use Rattle.steps.proofs.Adjust.{accepted, adjust_keeps}
 use Rattle.steps.proofs.Offers.{root_label_none}
 use Rattle.steps.proofs.Roots.{used_inside, node_blossom}
 use Rattle.tables.specs.declared.tables.Tables.{Tables}
-use Rattle.tables.specs.States.{offered, blossom_of, state}
+use Rattle.tables.specs.States.{blossom_of, state}
 use Rattle.tables.specs.Kept.{Held, Keeps}
-use Rattle.adjusts.specs.Labels.{RootLabels}
 use Rattle.tables.specs.States.{no_place, place}
 use Rattle.board.specs.Moves.{Low, LowBlossoms, all_moved}
 use Rattle.adjusts.specs.Adjusts.{Ready}

@@ -1,5 +1,5 @@
 -- Augment, shrink and dissolve on the tables: the state that they leave, and that it keeps what every board keeps. Assumes nothing.
-use Rattle.std.proofs.Common.{◌≡◌, ℕ, ◌-◌, ◌<◌, true, false, ◌&&◌, leb, List, map, set, is_some, None, Option, sym, refl, ap, ◌∙◌, subst, inl, inr, arith}
+use Rattle.std.proofs.Common.{◌≡◌, ℕ, ◌-◌, ◌<◌, true, false, ◌&&◌, leb, List, set, is_some, None, Option, sym, refl, ap, ◌∙◌, subst, inl, inr, arith}
 use mathlib.Core.Bool.{Bool-set}
 use mathlib.Core.Logic.{∥∥₁_elim, ∥∥₁_map}
 use Rattle.std.proofs.lemmas.List.{map-set}
@@ -19,7 +19,7 @@ use Rattle.rings.proofs.Dissolves.{dissolve_keeps}
 use Rattle.tables.specs.declared.tables.Blossom.{Blossom}
 use Rattle.tables.specs.declared.tables.Tables.{Tables}
 use Rattle.tables.specs.States.{blossom_of, state, place}
-use Rattle.tables.specs.Kept.{Held, Keeps}
+use Rattle.tables.specs.Kept.{Keeps}
 use Rattle.tables.proofs.Keeping.{blossom_there}
 use Rattle.walks.proofs.Telling.{no_number}
 use Rattle.board.specs.Steps.{mated_anew, ringed_anew, free_place}

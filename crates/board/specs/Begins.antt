@@ -1,5 +1,5 @@
 -- Begin: when it is refused, and what it leaves. Assumes nothing.
-use Rattle.std.specs.Prelude.{ℕ, ◌*◌, Bool, cond, not, ◌&&◌, replicate, is_some, Some, None, Option, nat_le}
+use Rattle.std.specs.Prelude.{ℕ, ◌*◌, not, ◌&&◌, replicate, is_some, Some, Option, nat_le}
 use Rattle.faults.specs.declared.layers.BoardFault.{BoardFault}
 use Rattle.faults.specs.declared.layers.BoardFault.TheVariants.{AlreadyBegun, BadK, HighTop}
 use Rattle.faults.specs.Checks.{or_else, unless}

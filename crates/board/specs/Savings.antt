@@ -1,5 +1,5 @@
 -- What the board's pairing saves, shown or in ground millimetres. Assumes nothing.
-use Rattle.std.specs.Prelude.{ℕ, List}
+use Rattle.std.specs.Prelude.{ℕ}
 use Rattle.matching.specs.declared.row.Row.{Row}
 use Rattle.matching.specs.Rows.{row}
 use Rattle.matching.specs.Sums.{total}

@@ -4,7 +4,6 @@ use Rattle.matching.specs.declared.row.Row.{Row}
 use Rattle.matching.specs.Pairings.{Pairing, ground_of}
 use Rattle.tables.specs.declared.tables.Tables.{Tables}
 use Rattle.tables.specs.States.{offered}
-use Rattle.board.specs.Questions.{pairing}
 
 -- the tables hold a source's members, offers and top
 pub record Shows (n : ℕ) (rs : List Row) (top : ℕ) (t : Tables) : Type 0 where

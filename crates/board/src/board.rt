@@ -17,7 +17,7 @@ ghost use Rattle.board.specs.Truth.{Shows, StillShows, Bounds};
 
 use crate::adjusting::adjust;
 use crate::beginning::{begin, check_begin};
-use crate::blossoms::{blossom_price, link};
+use crate::blossom_questions::{blossom_price, link};
 use crate::making::tables_of;
 use crate::questions::{check_member, gap, loose, partner, partners, saved};
 use crate::saving::Saving;

@@ -1,7 +1,9 @@
 // The pairing board over a source of offers.
+#![tactic(auto)]
+
 mod adjusting;
 mod beginning;
-mod blossoms;
+mod blossom_questions;
 pub mod board;
 mod making;
 mod questions;

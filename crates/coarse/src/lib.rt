@@ -1,4 +1,6 @@
 // A layer over a source whose shown savings are x/N of those below, rounded down.
+#![tactic(auto)]
+
 ghost use Rattle.std.specs.Prelude.{◌≡◌, ◌≤◌};
 ghost use Rattle.faults.specs.Checks.{judged, unless_fault};
 ghost use Rattle.coarse.specs.Coarse.{part_of, coarse_rows, coarse_carry};

@@ -1,4 +1,6 @@
 // Member lengths, stock lengths and a saw cut: what stands against them.
+#![tactic(auto)]
+
 ghost use Rattle.std.specs.Prelude.{◌≡◌, Ok};
 ghost use Rattle.faults.specs.Checks.{judged};
 ghost use Rattle.stock.specs.Stock.{Rising};

@@ -1,10 +1,8 @@
 -- A word that is none of the keywords. Assumes nothing.
-use Rattle.std.proofs.Common.{◌≡◌, ℕ, Bool, true, false, cond, List, [], ◌∷◌, Some, None, codes, Decides, sym, refl, ap, ◌∙◌, ⊎_elim}
+use Rattle.std.proofs.Common.{◌≡◌, ℕ, Bool, false, List, None, codes, Decides, sym, ◌∙◌, ⊎_elim}
 use Rattle.std.specs.Str.{bytes_eq}
 use Rattle.std.proofs.lemmas.Slice.Eq.{bytes_eq-Decides}
 use Rattle.std.proofs.lemmas.Bool.{cases_Bool, both_ways, cond-false}
-use Rattle.forms.specs.declared.form.Keyword.{Keyword}
-use Rattle.forms.specs.declared.form.Keyword.TheVariants.{Framing, Coarsening, Offering}
 use Rattle.forms.specs.Forms.{keyword_of}
 
 -- a test that came out false, where it decides what sameBytes does

@@ -140,11 +140,11 @@ fn offer(text: &[u8]) -> Option<Offer>
 fn keyword_of(word: &[u8]) -> Option<Keyword>
     ensures { result ≡ keyword_of word.now }
 {
-    if word == b"frame" {
+    if word == b"frame".as_slice() {
         Some(Keyword::Framing)
-    } else if word == b"coarse" {
+    } else if word == b"coarse".as_slice() {
         Some(Keyword::Coarsening)
-    } else if word == b"offer" {
+    } else if word == b"offer".as_slice() {
         Some(Keyword::Offering)
     } else {
         None

@@ -1,5 +1,5 @@
 -- What every source of offers owes: its bounds and the law of carry. Assumes nothing.
-use Rattle.std.specs.Prelude.{ℕ, ◌+◌, ◌<◌, ◌≤◌, List, length}
+use Rattle.std.specs.Prelude.{ℕ, ◌+◌, ◌≤◌, List, length}
 use Rattle.matching.specs.declared.row.Row.{Row}
 use Rattle.matching.specs.Rows.{AllSound}
 use Rattle.matching.specs.Pairings.{Pairing, shown_of, ground_of}

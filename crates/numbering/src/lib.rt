@@ -1,4 +1,6 @@
 // Offers for every two of up to 89 members, numbered row by row: the row of member v has an offer with each u below v.
+#![tactic(auto)]
+
 ghost use Rattle.std.specs.Prelude.{◌≡◌, ℕ, ◌<◌, ◌≤◌, true, is_some, Some};
 ghost use Rattle.numbering.specs.Numbering.{offers_among, number, twos_at, number_at};
 

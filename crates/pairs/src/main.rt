@@ -1,4 +1,6 @@
 // Reads a sheet of offers from standard input, and prints its plan, or the refusal with layer, number and place.
+#![tactic(auto)]
+
 ghost use Rattle.std.specs.Prelude.{◌≤◌, length, IfOk};
 
 use answer::answer;

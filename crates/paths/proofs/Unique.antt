@@ -1,5 +1,5 @@
 -- Laying bare has one result. Assumes nothing.
-use Rattle.std.proofs.Common.{◌≡◌, ℕ, ◌+◌, ◌≤◌, true, List, [], ◌∷◌, ◌++◌, Option, sym, refl, ap, ◌∙◌, subst, arith}
+use Rattle.std.proofs.Common.{◌≡◌, ℕ, ◌≤◌, true, List, [], ◌∷◌, ◌++◌, Option, sym, refl, ap, ◌∙◌, subst, arith}
 use Rattle.matching.specs.State.{State, node_holds}
 use Rattle.paths.specs.Bare.{Link, by_twos, joined, Task, piled, Laid}
 use Rattle.paths.specs.Theorems.{OneResult}

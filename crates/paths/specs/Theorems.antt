@@ -1,5 +1,5 @@
 -- What laying bare brings about, and that an accepted augment leaves one state, which keeps what every state keeps. Assumes nothing.
-use Rattle.std.specs.Prelude.{◌≡◌, ℕ, ◌+◌, ◌<◌, Bool, true, false, not, ◌≢◌, ◌⊎◌, List, [], ◌∷◌, length, Some, None, Option, slice_index, slice_index_or}
+use Rattle.std.specs.Prelude.{◌≡◌, ℕ, ◌+◌, ◌<◌, true, false, not, ◌≢◌, ◌⊎◌, List, [], ◌∷◌, length, Some, None, Option, slice_index, slice_index_or}
 use Rattle.matching.specs.Mates.{mate}
 use Rattle.matching.specs.State.{State, first_of, second_of, blossom_at, InUse, inside, node_holds, paired_in, loose_in}
 use Rattle.matching.specs.Kept.{Kept, Node, bare}

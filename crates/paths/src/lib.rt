@@ -1,4 +1,6 @@
 // Walks from root to root, laying bare, and why an augment keeps what every board keeps.
+#![tactic(auto)]
+
 pub mod examples;
 
 ghost use Rattle.std.specs.Prelude.{◌≡◌, ◌-◌, ◌/◌};

@@ -1,23 +1,26 @@
 // When two plans are the same: so many members, and each has the same partner.
-ghost use Rattle.std.specs.Prelude.{Decides};
-ghost use Rattle.plan.specs.Plans.{Same};
+ghost use Rattle.std.specs.Prelude.{◌≡◌, Decides};
+ghost use Rattle.std.specs.Cmp.{partial_equiv_from_equiv};
 ghost use Rattle.std.specs.Cmp.Rules.{comparing};
-ghost use Rattle.std.proofs.Common.{rules, arith};
-ghost use Rattle.std.specs.Cmp as Keys;
+ghost use Rattle.std.proofs.Common.{rules};
+ghost use Rattle.plan.specs.Plans.{Same, is_same};
 
 use crate::plan::Plan;
 
 impl PartialEq for Plan {
-    ghost equals = { λ p q r. Decides r (Same p q) };
+    ghost eq = { is_same };
 
-    ghost laws = { Keys.partial_equiv_from_equiv (first_of (Prim.search (comparing, rules), Prim.grind (arith, Self.row.coded.inj))) };
+    ghost laws = { partial_equiv_from_equiv (Prim.search (comparing, rules)) };
 
-    fn eq(&self, other: &Plan) -> bool {
+    fn eq(&self, other: &Plan) -> bool
+        ensures value { result ≡ is_same self.now other.now }
+        ensures decided { Decides result (Same self.now other.now) }
+    {
         self.members == other.members
             && &self.partners[0..self.members] == &other.partners[0..other.members]
     }
 }
 
 impl Eq for Plan {
-    ghost laws = { first_of (Prim.search (comparing, rules), Prim.grind (arith, Self.row.coded.inj)) };
+    ghost laws = { Prim.search (comparing, rules) };
 }

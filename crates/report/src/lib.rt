@@ -1,4 +1,6 @@
 // The text of an answer: a plan or a refusal, written into a buffer if it fits.
+#![tactic(auto)]
+
 ghost use Rattle.std.specs.Prelude.{◌≡◌, ◌≤◌, length};
 ghost use Rattle.report.specs.Texts.{plan_text, refusal_text, written, write_result};
 

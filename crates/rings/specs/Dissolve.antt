@@ -1,5 +1,5 @@
 -- Dissolve: when it is a step, and what it leaves. Assumes nothing.
-use Rattle.std.specs.Prelude.{ℕ, ◌-◌, Bool, false, cond, ◌&&◌, List, [], ◌∷◌, map, is_some, Option, ◌==◌, nat_le, nat_lt, slice_set}
+use Rattle.std.specs.Prelude.{ℕ, ◌-◌, false, cond, ◌&&◌, List, [], ◌∷◌, map, is_some, Option, ◌==◌, nat_le, nat_lt, slice_set}
 use Rattle.faults.specs.declared.layers.BoardFault.{BoardFault}
 use Rattle.faults.specs.declared.layers.BoardFault.TheVariants.{NotBegun, NotRoot, Priced}
 use Rattle.faults.specs.Checks.{or_else, unless}

@@ -1,5 +1,5 @@
 -- That a shrink and a dissolve leave a state that keeps what every state keeps. Assumes nothing.
-use Rattle.std.specs.Prelude.{◌≡◌, ℕ, ◌<◌, false, List, length, None}
+use Rattle.std.specs.Prelude.{◌≡◌, ℕ, ◌<◌, false, List, None}
 use Rattle.matching.specs.State.{State, blossom_at, yz}
 use Rattle.matching.specs.Kept.{Kept}
 use Rattle.rings.specs.Shrink.{shrink_fault, shrunk}

@@ -1,4 +1,6 @@
 // Why a shrink and a dissolve keep what every board keeps.
+#![tactic(auto)]
+
 ghost use Rattle.std.specs.Prelude.{◌≡◌, ◌+◌, ◌-◌};
 ghost use Rattle.rings.specs.Theorems.{ShrinkKeeps, ShrinkStays, DissolveKeeps, DissolveStays};
 

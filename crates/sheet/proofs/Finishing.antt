@@ -1,6 +1,5 @@
 -- The end of a sheet whose offers are refused. Assumes nothing.
-use Rattle.std.proofs.Common.{◌≡◌, ℕ, ◌-◌, List, length, take, Some, None, Ok, Err, Option, Result, sym, ap, ◌∙◌, arith}
-use Rattle.faults.specs.declared.fault.Fault.{Fault}
+use Rattle.std.proofs.Common.{◌≡◌, ℕ, ◌-◌, List, take, Some, None, Err, Option, sym, ap, ◌∙◌, arith}
 use Rattle.faults.specs.declared.fault.Fault.TheVariants.{Source as InSource}
 use Rattle.faults.specs.declared.layers.SourceFault.{SourceFault}
 use Rattle.sources.specs.declared.offer.Offer.{Offer as Listed}

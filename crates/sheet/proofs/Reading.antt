@@ -1,5 +1,5 @@
 -- What the reader's loop keeps: the lines that are left give the outcome of the whole sheet. Assumes nothing.
-use Rattle.std.proofs.Common.{◌≡◌, ℕ, ◌+◌, ◌-◌, ◌<◌, ◌≤◌, min, List, [], ◌∷◌, ◌++◌, length, take, drop, Some, None, Ok, Err, Option, Result, sym, refl, ap, ◌∙◌, subst, arith}
+use Rattle.std.proofs.Common.{◌≡◌, ℕ, ◌+◌, ◌-◌, ◌<◌, ◌≤◌, min, List, ◌∷◌, ◌++◌, length, take, drop, Some, None, Ok, Err, Option, Result, sym, refl, ap, ◌∙◌, arith}
 use Rattle.std.proofs.lemmas.List.{take-append-drop, length-take-le, length-drop, drop-drop, nil_from_length}
 use Rattle.faults.specs.declared.fault.Fault.{Fault}
 use Rattle.faults.specs.declared.layers.SheetFault.{SheetFault}
@@ -11,7 +11,7 @@ use Rattle.sheet.specs.declared.reader.State.TheVariants.{Frame, Coarse, Body}
 use Rattle.sheet.specs.Lines.{lines, first_length}
 use Rattle.sheet.specs.Readers.{stage_of, count, slots_in, stage_at, most_at, Within, judged_line, outcome_at, Lent, told, settled, Moves}
 use Rattle.sheet.specs.Sheets.{Stage, start, finish, offers_in, Outcome, onward, over, length_fault, otherwise, sheet_of, placed}
-use Rattle.sheet.proofs.LineLengths.{lines_split, first_within, first_some}
+use Rattle.sheet.proofs.LineLengths.{lines_split, first_some}
 
 -- r stands before the lines of rest, begun by first, and the outcome is o
 pub record Sofar (first : Reader) (o : Outcome) (rest : List ℕ) (r : Reader) : Type 0 where

@@ -1,5 +1,5 @@
 -- A sheet that is read has a good ratio and good offers. Assumes nothing.
-use Rattle.std.proofs.Common.{◌≡◌, ℕ, ◌+◌, ◌≤◌, min, Bool, true, false, cond, leb, List, [], ◌∷◌, length, IfOk, Some, None, Ok, Err, Option, Result, sym, refl, ap, ◌∙◌, subst, ⊎_elim, arith}
+use Rattle.std.proofs.Common.{◌≡◌, ℕ, ◌+◌, ◌≤◌, min, cond, leb, List, [], ◌∷◌, length, IfOk, Some, None, Ok, Err, Option, Result, refl, ap, ⊎_elim, arith}
 use Rattle.std.proofs.lemmas.Bool.{cases_Bool, leb-true}
 use Rattle.faults.specs.declared.fault.Fault.{Fault}
 use Rattle.faults.specs.declared.layers.SheetFault.{SheetFault}
@@ -11,7 +11,6 @@ use Rattle.sources.specs.Lists.{size_fault, list_fault}
 use Rattle.coarse.specs.Ratios.{ratio_fault}
 use Rattle.forms.specs.declared.form.Form.{Form}
 use Rattle.forms.specs.declared.form.Form.TheVariants.{Frame, Coarse, Offer}
-use Rattle.sheet.specs.declared.reader.Sheet.{Sheet}
 use Rattle.forms.specs.Forms.{form}
 use Rattle.sheet.specs.Lines.{lines}
 use Rattle.sheet.specs.Sheets.{Stage, start, framed, listing, unless_fault, room_fault, accept, judge, finish, offers_in, Outcome, onward, over, length_fault, otherwise, sheet_of, Sound}

@@ -1,4 +1,6 @@
 // Worked cases of sources: lists, layers over them, lengths.
+#![tactic(auto)]
+
 #[cfg(test)]
 mod frames;
 #[cfg(test)]

@@ -1,2 +1,4 @@
 // A stack over slots that are handed in.
+#![tactic(auto)]
+
 pub mod stack;

@@ -1,4 +1,6 @@
 // Worked sequences of steps on boards.
+#![tactic(auto)]
+
 #[cfg(test)]
 mod augments;
 #[cfg(test)]

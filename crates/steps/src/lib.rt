@@ -1,4 +1,6 @@
 // Why each step of a board keeps what every board keeps.
+#![tactic(auto)]
+
 ghost use Rattle.std.specs.Prelude.{◌≡◌, ◌^◌, ◌<◌};
 ghost use Rattle.steps.specs.Adjust.{moved, moved_blossom};
 ghost use Rattle.steps.specs.Theorems.{AdjustKeeps, InnerOffersStay, OuterOffersMove};

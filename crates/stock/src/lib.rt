@@ -1,4 +1,6 @@
 // Stock lengths, and what two members save when they are cut out of one. The rule of a saving stands here and nowhere else.
+#![tactic(auto)]
+
 ghost use Rattle.std.specs.Prelude.{◌≡◌};
 ghost use Rattle.stock.specs.Stock.{Rising, stock_of, Smallest, largest_stock, saving_of};
 

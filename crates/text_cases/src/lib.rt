@@ -1,4 +1,6 @@
 // Worked cases of texts: sheets that are read, plans that are written.
+#![tactic(auto)]
+
 #[cfg(test)]
 mod plans;
 #[cfg(test)]

@@ -83,7 +83,7 @@ fn answers(rt: HostRuntime) -> Result<(), Fail> {
         write_refusal(Fault::Board(BoardFault::BadK(40)), &mut buffer)?,
         18
     );
-    assert_eq!(rt; &buffer[0..20], b"(refused 3 23 40)\n\x07\x07");
+    assert_eq!(rt; &buffer[0..20], b"(refused 3 23 40)\n\x07\x07".as_slice());
     Ok(())
 }
 

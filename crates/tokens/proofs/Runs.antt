@@ -3,7 +3,7 @@ use Rattle.std.proofs.Common.{◌≡◌, ℕ, zero, suc, ◌+◌, ◌<◌, ◌�
 use Rattle.tokens.specs.declared.token.Kind.TheVariants.{Letter, Digit}
 use Rattle.std.proofs.lemmas.List.{at_drop_more, at_drop_all, length-take-le, get_or-take}
 use Rattle.std.proofs.lemmas.Bool.{cases_Bool, cond-true, cond-false, cond_both}
-use Rattle.tokens.specs.Tokens.{belongs, run, Word, opening, closing, name, numeral, longest, token_of}
+use Rattle.tokens.specs.Tokens.{belongs, run, Word, opening, closing, name, numeral, token_of}
 
 module _ (p : ℕ → Bool) (bs : List ℕ) (i : ℕ) (inv : i + run p (drop i bs) ≡ run p bs) where
   step : i < length bs → run p bs ≡ i + cond (p (get_or bs i 0)) (run p (drop (i + 1) bs) + 1) 0

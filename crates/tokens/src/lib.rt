@@ -1,2 +1,4 @@
 // The words of a sheet's text.
+#![tactic(auto)]
+
 pub mod token;

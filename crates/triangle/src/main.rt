@@ -1,4 +1,6 @@
 // Takes one task from start to finish, and prints each action with what it answered.
+#![tactic(auto)]
+
 use board::board::Board;
 use coarse::Coarse;
 use faults::layers::BoardFault;

@@ -4,16 +4,15 @@ use mathlib.Core.Bool.{beq}
 use mathlib.Core.Logic.{∥∥₁_elim}
 use native.Mathlib.Nat.{ℕ_set}
 use Rattle.std.proofs.lemmas.List.{get_or_past}
-use Rattle.std.proofs.lemmas.Bool.{and_parts, and_from, both_ways, cases_Bool, eqb-true, eqb-false, eq-eqb, ne_eqb, lt-ltb, ltb-true, not-true, not_from_false}
+use Rattle.std.proofs.lemmas.Bool.{and_parts, and_from, both_ways, cases_Bool, eqb-true, eq-eqb, ne_eqb, lt-ltb, ltb-true, not-true, not_from_false}
 use Rattle.matching.specs.declared.row.Row.{Row}
 use Rattle.matching.specs.Rows.{no_row, row}
 use Rattle.matching.specs.State.{State, or_zero, first_of, second_of, root_at, price_at, around, yz, weight, paired_in, eligible}
-use Rattle.matching.specs.Kept.{Kept}
 use Rattle.steps.proofs.Offers.{outer_offers_move}
 use Rattle.paths.specs.Walk.{across, leaves, may_go}
 use Rattle.tables.specs.declared.tables.Tables.{Tables}
 use Rattle.tables.specs.States.{offered, state}
-use Rattle.tables.specs.Kept.{Held, Keeps}
+use Rattle.tables.specs.Kept.{Keeps}
 use Rattle.tables.proofs.Keeping.{row_offered}
 
 refuted : (b : Bool) → (b ≡ true → ⊥) → b ≡ false

@@ -1,11 +1,11 @@
 -- Which nodes are roots, told from the tables. Assumes nothing.
-use Rattle.std.proofs.Common.{◌≡◌, ℕ, zero, suc, ◌+◌, ◌-◌, ◌<◌, ◌≤◌, Bool, true, false, cond, eqb, ltb, ◌⊎◌, length, get_or, take, sym, refl, ap, ◌∙◌, subst, inl, inr, ⊎_elim, arith}
+use Rattle.std.proofs.Common.{◌≡◌, ℕ, zero, suc, ◌-◌, ◌<◌, ◌≤◌, Bool, true, false, cond, eqb, ltb, length, get_or, take, sym, refl, ap, ◌∙◌, subst, ⊎_elim, arith}
 use Rattle.std.proofs.lemmas.List.{get_or-take}
 use Rattle.std.proofs.lemmas.Bool.{both_ways, cond_both, eqb-true, eq-eqb}
 use Rattle.matching.specs.declared.row.Row.{Row}
 use Rattle.matching.specs.Rows.{row}
-use Rattle.matching.specs.State.{State, Blossom, first_of, second_of, root_at, blossom_at, InUse, inside, node_holds}
-use Rattle.matching.specs.Kept.{Kept, part_at}
+use Rattle.matching.specs.State.{State, Blossom, first_of, root_at, blossom_at, InUse, inside}
+use Rattle.matching.specs.Kept.{Kept}
 use Rattle.matching.proofs.Nodes.{inside_used, used_known, holds_cases}
 use Rattle.matching.proofs.Nesting.{one_root, part_inside}
 use Rattle.steps.proofs.Searches.{some_below_true}

@@ -1,4 +1,6 @@
 // Walks from root to root on the tables of a board, by a list of offers.
+#![tactic(auto)]
+
 ghost use Rattle.std.specs.Prelude.{◌≡◌, ℕ, ◌+◌, ◌<◌, ◌≤◌, Bool, false, not, ◌&&◌, ◌||◌, ◌≢◌, [], ◌∷◌, if◌then◌else◌, Some, None, ◌==◌, nat_eq};
 ghost use Rattle.matching.specs.State.{yz, weight, price_at, first_of, second_of, root_at};
 ghost use Rattle.paths.specs.Walk.{is_root, across, may_go, walk};

@@ -1,10 +1,10 @@
-use Rattle.std.proofs.Common.{◌≡◌, Ok, sym, ap, ◌∙◌, subst, rules}
+use Rattle.std.proofs.Common.{Ok, sym, ap, ◌∙◌, subst}
 use Rattle.sources.specs.ListRows.{list_rows, list_carry}
 use Rattle.coarse.specs.Coarse.{part_of, coarse_rows, coarse_carry}
 use Rattle.board.specs.Questions.{gap}
 use Rattle.board.specs.Released.{Released}
 use Rattle.board.specs.Truth.{Shows, Bounds}
-use Rattle.answer.specs.Answers.{new_board, Begins}
+use Rattle.answer.specs.Answers.{Begins}
 use Rattle.answer.proofs.Piles.{Made, board_is, accepted, begun, planned}
 use Rattle.answer.proofs.plan_over.Goals as goal
 
@@ -22,15 +22,15 @@ returns c =
       part = c.new.ensures.taken;
       whole = c.new.ensures.full;
     } in
-    let t = c.new_board.result.tables in
+    let t = c.new-board.result.tables in
     let t' = c.begin.new.self.tables in
     let p = c.release.result in
-    let said = c.in-ok-begin.ensures in
-    let kept = said.source ∙ c.new_board.ensures.source in
-    let same = c.new_board.ensures.tables ∙ board_is s os c.requires pile.below.n pile.below.offers.now pile.below.top pile.x pile.whole made in
-    let now = begun s os c.requires t t' same c.in-ok-begin.field-0 said.value said.after in
-    let none = accepted s os c.requires t t' same c.in-ok-begin.field-0 said.value in
-    let plan = planned s os c.requires t t' same pile.below.n pile.below.offers.now pile.below.top pile.x pile.whole made p now c.new_board.ensures.shows
+    let said = c.in_ok-begin.ensures in
+    let kept = said.source ∙ c.new-board.ensures.source in
+    let same = c.new-board.ensures.tables ∙ board_is s os c.requires pile.below.n pile.below.offers.now pile.below.top pile.x pile.whole made in
+    let now = begun s os c.requires t t' same c.in_ok-begin.field-0 said.value said.after in
+    let none = accepted s os c.requires t t' same c.in_ok-begin.field-0 said.value in
+    let plan = planned s os c.requires t t' same pile.below.n pile.below.offers.now pile.below.top pile.x pile.whole made p now c.new-board.ensures.shows
     (subst (λ z. Released t' (coarse_carry z.x z.whole z.below.n z.below.top (list_carry z.below.n z.below.top) (gap t')) p) kept c.release.ensures.value)
     (subst (λ z. Shows z.below.n (coarse_rows z.x z.whole (list_rows z.below.offers.now)) (part_of z.x z.whole z.below.top) t' → Bounds (coarse_rows z.x z.whole (list_rows z.below.offers.now)) p.ground p.slack) kept c.release.ensures.truth)
     in

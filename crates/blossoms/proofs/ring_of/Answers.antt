@@ -7,7 +7,7 @@ use Rattle.blossoms.proofs.Holding.{holds_is, roots_is, ring_told}
 use Rattle.blossoms.proofs.ring_of.Goals as goal
 
 pub padded-requires : goal.padded-requires
-padded-requires c = few_offers c.args.view.tables.now c.args.view.kept c.args.root c.args.offers.now c.in-ok-place.ensures.none
+padded-requires c = few_offers c.args.view.tables.now c.args.view.kept c.args.root c.args.offers.now c.in_ok-place.ensures.none
 
 pub returns : goal.returns
 returns c =
@@ -15,17 +15,17 @@ returns c =
     let s = state t in
     let r = c.args.root in
     let es = c.args.offers.now in
-    let place = c.in-ok-place.place in
-    let free : Free s r es place = c.in-ok-place.ensures in
+    let place = c.in_ok-place.place in
+    let free : Free s r es place = c.in_ok-place.ensures in
     let ps = passed s r es in
     let parts = c.parts_of.result.0 in
     let marks = c.parts_of.result.1 in
     let marked = c.parts_of.ensures.marks in
-    let holds = c.members-of-holds.result in
+    let holds = c.members_of-holds.result in
     record {
       none = free.none;
       low = free.low;
       free = free.free;
-      blossom = ring_told s ps es (take (length es) parts) (take (length es) c.padded.result) holds c.parts_of.ensures.parts c.padded.ensures (holds_is t c.args.view.kept ps marks marked holds c.members-of-holds.ensures);
-      roots = c.roots-under-roots.ensures ∙ roots_is t c.args.view.kept ps marks marked holds c.members-of-holds.ensures (200 + place);
+      blossom = ring_told s ps es (take (length es) parts) (take (length es) c.padded.result) holds c.parts_of.ensures.parts c.padded.ensures (holds_is t c.args.view.kept ps marks marked holds c.members_of-holds.ensures);
+      roots = c.roots_under-roots.ensures ∙ roots_is t c.args.view.kept ps marks marked holds c.members_of-holds.ensures (200 + place);
     }

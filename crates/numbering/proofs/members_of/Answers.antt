@@ -3,20 +3,20 @@ use Rattle.numbering.specs.Numbering.{offers_among, number}
 use Rattle.numbering.proofs.NumberingLaws.{among_more}
 use Rattle.numbering.proofs.Members.{at_number, too_many, past_last, in_row, these}
 use Rattle.numbering.proofs.members_of.Goals as goal
-use Rattle.numbering.proofs.members_of.Goals.{then-members-gt-MOST-LENGTHS-via-then-members-gt-MOST-LENGTHS, then-members-gt-MOST-LENGTHS-via-else-members-gt-MOST-LENGTHS+then-offer-offers-among}
+use Rattle.numbering.proofs.members_of.Goals.{then-members-gt-MOST_LENGTHS-via-then-members-gt-MOST_LENGTHS, then-members-gt-MOST_LENGTHS-via-else-members-gt-MOST_LENGTHS+then-offer-offers_among}
 
-pub returns-then-members-gt-MOST-LENGTHS : goal.returns-then-members-gt-MOST-LENGTHS
-returns-then-members-gt-MOST-LENGTHS c =
+pub returns-then-members-gt-MOST_LENGTHS : goal.returns-then-members-gt-MOST_LENGTHS
+returns-then-members-gt-MOST_LENGTHS c =
     let n = c.args.members in
     let e = c.args.offer in
     record {
-      value = elim c.then-members-gt-MOST-LENGTHS.branch [
-        | then-members-gt-MOST-LENGTHS-via-then-members-gt-MOST-LENGTHS w ↦ too_many n e w.if-members-gt-MOST-LENGTHS.true
-        | then-members-gt-MOST-LENGTHS-via-else-members-gt-MOST-LENGTHS+then-offer-offers-among w ↦ past_last n e (omega (arith, w.offers_among.ensures, w.if-offer-offers-among.true))
+      value = elim c.then-members-gt-MOST_LENGTHS.branch [
+        | then-members-gt-MOST_LENGTHS-via-then-members-gt-MOST_LENGTHS w ↦ too_many n e w.if-members-gt-MOST_LENGTHS.true
+        | then-members-gt-MOST_LENGTHS-via-else-members-gt-MOST_LENGTHS+then-offer-offers_among w ↦ past_last n e (omega (arith, w.offers_among.ensures, w.if-offer-offers_among.true))
       ];
-      every = λ few l. elim c.then-members-gt-MOST-LENGTHS.branch [
-        | then-members-gt-MOST-LENGTHS-via-then-members-gt-MOST-LENGTHS w ↦ absurd (omega (arith, w.if-members-gt-MOST-LENGTHS.true))
-        | then-members-gt-MOST-LENGTHS-via-else-members-gt-MOST-LENGTHS+then-offer-offers-among w ↦ absurd (omega (arith, w.offers_among.ensures, w.if-offer-offers-among.true))
+      every = λ few l. elim c.then-members-gt-MOST_LENGTHS.branch [
+        | then-members-gt-MOST_LENGTHS-via-then-members-gt-MOST_LENGTHS w ↦ absurd (omega (arith, w.if-members-gt-MOST_LENGTHS.true))
+        | then-members-gt-MOST_LENGTHS-via-else-members-gt-MOST_LENGTHS+then-offer-offers_among w ↦ absurd (omega (arith, w.offers_among.ensures, w.if-offer-offers_among.true))
       ];
       back = λ u v same. let z : ◌≡◌ {A = ℕ} 0 1 = cc in absurd (omega arith);
     }
@@ -29,10 +29,10 @@ returns c =
     let n = c.args.members in
     let e = c.args.offer in
     let v = c.loop-v.v in
-    let from : offers_among v ≤ e = omega (arith, c.offers-among-in-loop-v.ensures, c.loop-v-test.false) in
-    let at = in_row n v e c.loop-v.invariant.0 from c.loop-v.invariant.1 (omega (arith, c.offers_among.ensures, c.if-offer-offers-among.false)) in
+    let from : offers_among v ≤ e = omega (arith, c.offers_among-in-loop-v.ensures, c.loop-v-test.false) in
+    let at = in_row n v e c.loop-v.invariant.0 from c.loop-v.invariant.1 (omega (arith, c.offers_among.ensures, c.if-offer-offers_among.false)) in
     let is : number (e - offers_among v) v ≡ e = omega (arith, from) in
-    let few = c.if-members-gt-MOST-LENGTHS.false in
+    let few = c.if-members-gt-MOST_LENGTHS.false in
     let x = e - offers_among v in
     let told = at_number n x v e few at.0 at.1 is in
     record {

@@ -17,11 +17,11 @@ returns c =
     let s = state c.args.view.tables.now in
     let e = c.args.offer in
     let r = c.args.root in
-    let ends = c.end-roots-first.ensures in
-    let a = c.end-roots-first.result.0 in
-    let b = c.end-roots-first.result.1 in
+    let ends = c.end_roots-first.ensures in
+    let a = c.end_roots-first.result.0 in
+    let b = c.end_roots-first.result.1 in
     let next : c.if-first-root.next ≡ cond (eqb a r) b a = elim c.if-first-root.branch [
-      | then-first-root w ↦ w.next_is ∙ sym (ap (λ t. cond t b a) (eq-eqb a r w.if-first-root.true))
-      | else-first-root w ↦ w.next_is ∙ sym (ap (λ t. cond t b a) (ne_eqb a r w.if-first-root.false))
+      | then-first-root w ↦ w.next-is ∙ sym (ap (λ t. cond t b a) (eq-eqb a r w.if-first-root.true))
+      | else-first-root w ↦ w.next-is ∙ sym (ap (λ t. cond t b a) (ne_eqb a r w.if-first-root.false))
     ] in
     next ∙ ap (λ x. cond (eqb x r) b x) ends.first ∙ ap (λ y. cond (eqb (root_at s (first_of s e)) r) y (root_at s (first_of s e))) ends.second

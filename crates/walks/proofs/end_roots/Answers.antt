@@ -1,10 +1,10 @@
-use Rattle.std.proofs.Common.{◌≡◌, get_or, sym, refl, ap, ◌∙◌, arith, rules}
+use Rattle.std.proofs.Common.{get_or, sym, ap, arith}
 use Rattle.matching.specs.declared.row.Row.{Row}
 use Rattle.tables.proofs.Keeping.{few, short, first_in, second_in, row_offered, root_low}
 use Rattle.walks.proofs.end_roots.Goals as goal
 
-pub offset-bounds-view-offer : goal.offset-bounds-view-offer
-offset-bounds-view-offer c = omega (arith, short c.args.view.tables.now c.args.view.kept, c.requires)
+pub offset_bounds-view-offer : goal.offset_bounds-view-offer
+offset_bounds-view-offer c = omega (arith, short c.args.view.tables.now c.args.view.kept, c.requires)
 
 pub bounds-view-offer : goal.bounds-view-offer
 bounds-view-offer c = omega (arith, short c.args.view.tables.now c.args.view.kept, c.requires)

@@ -1,6 +1,6 @@
-use Rattle.std.proofs.Common.{◌≡◌, Bool, false, List, [], ◌∷◌, sym, refl, subst, arith}
+use Rattle.std.proofs.Common.{Bool, List, [], ◌∷◌, sym, refl, subst, arith}
 use Rattle.tables.specs.States.{state}
-use Rattle.walks.proofs.Following.{Marks, Sofar, marks_none, marks_more, marks_past, stuck, barred, onward, arrived}
+use Rattle.walks.proofs.Following.{Marks, marks_none, marks_more, marks_past, stuck, barred, onward, arrived}
 use Rattle.walks.proofs.follow.Goals as goal
 use Rattle.walks.proofs.follow.Goals.{then-root-lt300, else-root-lt300}
 
@@ -16,18 +16,18 @@ loop-i-init c =
       rest = refl;
     }
 
-pub returns-in-default : goal.returns-in-default
-returns-in-default c = stuck (state c.args.view.tables.now) c.args.back c.args.root c.args.offers.now c.loop-i.i c.loop-i.at c.loop-i.turn c.loop-i.used c.loop-i.invariant c.loop-i-test.true c.in-default.ensures.value
+pub returns-in_default : goal.returns-in_default
+returns-in_default c = stuck (state c.args.view.tables.now) c.args.back c.args.root c.args.offers.now c.loop-i.i c.loop-i.at c.loop-i.turn c.loop-i.used c.loop-i.invariant c.loop-i-test.true c.in_default.ensures.value
 
-pub returns-then-not-may-come : goal.returns-then-not-may-come
-returns-then-not-may-come c =
+pub returns-then-not-may_come : goal.returns-then-not-may_come
+returns-then-not-may_come c =
     barred (state c.args.view.tables.now) c.args.back c.args.root c.args.offers.now c.loop-i.i c.loop-i.at c.loop-i.turn c.loop-i.used c.loop-i.invariant c.loop-i-test.true
-    c.in-Some.next (c.in-Some.ensures.low c.in-Some.next refl) c.in-Some.ensures.value _ c.may_come.result refl c.may_come.ensures c.if-not-may-come.true
+    c.in-Some.next (c.in-Some.ensures.low c.in-Some.next refl) c.in-Some.ensures.value _ c.may_come.result refl c.may_come.ensures c.if-not-may_come.true
 
 pub loop-i-preserved : goal.loop-i-preserved
 loop-i-preserved c =
     onward (state c.args.view.tables.now) c.args.back c.args.root c.args.offers.now c.loop-i.i c.loop-i.at c.loop-i.turn c.loop-i.used c.loop-i.invariant c.loop-i-test.true
-    c.in-Some.next (c.in-Some.ensures.low c.in-Some.next refl) c.in-Some.ensures.value _ c.may_come.result refl c.may_come.ensures c.if-not-may-come.false
+    c.in-Some.next (c.in-Some.ensures.low c.in-Some.next refl) c.in-Some.ensures.value _ c.may_come.result refl c.may_come.ensures c.if-not-may_come.false
 
 pub returns : goal.returns
 returns c = arrived (state c.args.view.tables.now) c.args.back c.args.root c.args.offers.now c.loop-i.i c.loop-i.at c.loop-i.turn c.loop-i.used c.loop-i.invariant (omega (arith, c.loop-i-test.false))

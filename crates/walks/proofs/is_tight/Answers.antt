@@ -6,16 +6,16 @@ use Rattle.walks.proofs.Going.{told}
 use Rattle.walks.proofs.is_tight.Goals as goal
 use Rattle.walks.proofs.is_tight.Goals.{in-Some, in-None, then-paired, else-paired}
 
-pub offset-bounds-tables-offer : goal.offset-bounds-tables-offer
-offset-bounds-tables-offer c = omega (arith, short c.args.view.tables.now c.args.view.kept, c.requires.known)
+pub offset_bounds-tables-offer : goal.offset_bounds-tables-offer
+offset_bounds-tables-offer c = omega (arith, short c.args.view.tables.now c.args.view.kept, c.requires.known)
 
 pub bounds-tables-offer : goal.bounds-tables-offer
 bounds-tables-offer c = omega (arith, short c.args.view.tables.now c.args.view.kept, c.requires.known)
 
-pub overflow-mul-weight-2 : goal.overflow-mul-weight-2
-overflow-mul-weight-2 c =
+pub overflow_mul-weight-2 : goal.overflow_mul-weight-2
+overflow_mul-weight-2 c =
     let low = shown_low c.args.view.tables.now c.args.view.kept c.args.offer c.requires.known in
-    let wide = c.type-inv.k.fits in
+    let wide = c.type_inv.k.fits in
     let twice : 2 * c.match-tables.k ≤ 8589934592 = omega arith in
     let fits : 2 * c.match-tables.k * (row c.args.view.tables.now.rows c.args.offer).shown ≤ 858993459200000 = omega (arith, mul-le-mul twice low) in
     search rules

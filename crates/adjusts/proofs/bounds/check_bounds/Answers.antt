@@ -6,16 +6,16 @@ use Rattle.tables.proofs.Keeping.{full}
 use Rattle.steps.proofs.Searches.{judged_none, judged_found}
 use Rattle.adjusts.proofs.bounds.check_bounds.Goals as goal
 
-pub leaves-bounds-requires : goal.leaves-bounds-requires
-leaves-bounds-requires c = record { all = c.requires.all; begun = c.requires.begun; above = c.requires.above; labelled = c.requires.labelled; priced = c.requires.priced; there = c.loop-e-test.true }
+pub leaves_bounds-requires : goal.leaves_bounds-requires
+leaves_bounds-requires c = record { all = c.requires.all; begun = c.requires.begun; above = c.requires.above; labelled = c.requires.labelled; priced = c.requires.priced; there = c.loop-e-test.true }
 
-pub returns-then-leaves-bounds : goal.returns-then-leaves-bounds
-returns-then-leaves-bounds c =
+pub returns-then-leaves_bounds : goal.returns-then-leaves_bounds
+returns-then-leaves_bounds c =
     let t = c.args.view.tables.now in
-    judged_found OutOfBounds (λ u. not (in_bounds (adjusted (state t) c.args.labels.now) u)) (length (offered t)) c.loop-e.e (omega (arith, full t c.args.view.kept, c.loop-e-test.true)) (sym c.leaves-bounds.ensures ∙ c.if-leaves-bounds.true) c.loop-e.invariant
+    judged_found OutOfBounds (λ u. not (in_bounds (adjusted (state t) c.args.labels.now) u)) (length (offered t)) c.loop-e.e (omega (arith, full t c.args.view.kept, c.loop-e-test.true)) (sym c.leaves_bounds.ensures ∙ c.if-leaves_bounds.true) c.loop-e.invariant
 
 pub loop-e-preserved : goal.loop-e-preserved
-loop-e-preserved c = below_more _ _ c.loop-e.invariant (sym c.leaves-bounds.ensures ∙ c.if-leaves-bounds.false)
+loop-e-preserved c = below_more _ _ c.loop-e.invariant (sym c.leaves_bounds.ensures ∙ c.if-leaves_bounds.false)
 
 pub returns : goal.returns
 returns c =

@@ -6,7 +6,7 @@ use Rattle.tables.proofs.Keeping.{few, root_low}
 use Rattle.tables.proofs.Keeping.{is_none_by}
 use Rattle.adjusts.proofs.Labelling.{flaw, Marked, marked_none, marked_more, marked_same}
 use Rattle.adjusts.proofs.labels.mislabelled.Goals as goal
-use Rattle.adjusts.proofs.labels.mislabelled.Goals.{then-is-wrong, else-is-wrong}
+use Rattle.adjusts.proofs.labels.mislabelled.Goals.{then-is_wrong, else-is_wrong}
 
 pub loop-v-init : goal.loop-v-init
 loop-v-init c = marked_none (state c.args.tables.now) c.args.labels.now c.args.common.now
@@ -14,8 +14,8 @@ loop-v-init c = marked_none (state c.args.tables.now) c.args.labels.now c.args.c
 pub bounds-tables-v : goal.bounds-tables-v
 bounds-tables-v c = omega (arith, few c.args.tables.now c.requires.kept)
 
-pub offset-bounds-tables-v-in-loop-v : goal.offset-bounds-tables-v-in-loop-v
-offset-bounds-tables-v-in-loop-v c = let h = few c.args.tables.now c.requires.kept in search rules
+pub offset_bounds-tables-v-in-loop-v : goal.offset_bounds-tables-v-in-loop-v
+offset_bounds-tables-v-in-loop-v c = let h = few c.args.tables.now c.requires.kept in search rules
 
 pub bounds-tables-v-in-loop-v : goal.bounds-tables-v-in-loop-v
 bounds-tables-v-in-loop-v c = omega (arith, few c.args.tables.now c.requires.kept)
@@ -36,9 +36,9 @@ loop-v-preserved c =
     let bad = c.loop-v.bad in
     let x = get_or rl (root_at s v) 0 in
     let low : root_at s v < 300 = root_low t c.requires.kept v (omega arith) in
-    let free = is_none_by (mate t.mates v) c.is-none.result c.is-none.ensures in
-    let told : flaw s ls x v ≡ c.is-wrong.result = ap (λ b. not (eqb (get_or ls v 0) x) || (ltb 2 (get_or ls v 0) || (b && not (eqb (get_or ls v 0) 1)))) free ∙ sym c.is-wrong.ensures in
-    elim c.if-is-wrong.branch [
-      | then-is-wrong w ↦ subst (Marked s ls rl (v + 1)) (sym w.bad-is) (marked_more s ls rl v bad low (told ∙ w.if-is-wrong.true) c.loop-v.invariant)
-      | else-is-wrong w ↦ subst (Marked s ls rl (v + 1)) (sym w.bad-is) (marked_same s ls rl v bad (told ∙ w.if-is-wrong.false) c.loop-v.invariant)
+    let free = is_none_by (mate t.mates v) c.is_none.result c.is_none.ensures in
+    let told : flaw s ls x v ≡ c.is_wrong.result = ap (λ b. not (eqb (get_or ls v 0) x) || (ltb 2 (get_or ls v 0) || (b && not (eqb (get_or ls v 0) 1)))) free ∙ sym c.is_wrong.ensures in
+    elim c.if-is_wrong.branch [
+      | then-is_wrong w ↦ subst (Marked s ls rl (v + 1)) (sym w.bad-is) (marked_more s ls rl v bad low (told ∙ w.if-is_wrong.true) c.loop-v.invariant)
+      | else-is_wrong w ↦ subst (Marked s ls rl (v + 1)) (sym w.bad-is) (marked_same s ls rl v bad (told ∙ w.if-is_wrong.false) c.loop-v.invariant)
     ]

@@ -46,4 +46,4 @@ loop-task-preserved c =
 pub returns : goal.returns
 returns c =
     finish (state c.args.view.tables.now) (pile c.args.stack.now.slots.now c.args.stack.now.len) c.args.mates.now c.loop-task.mates
-    (pile c.loop-task.stack.slots.now c.loop-task.stack.len) (emptied c.loop-task.stack.slots.now c.loop-task.stack.len c.in-default.ensures.value) c.loop-task.invariant.0
+    (pile c.loop-task.stack.slots.now c.loop-task.stack.len) (emptied c.loop-task.stack.slots.now c.loop-task.stack.len c.in_default.ensures.value) c.loop-task.invariant.0

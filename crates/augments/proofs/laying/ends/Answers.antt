@@ -6,14 +6,14 @@ use Rattle.augments.proofs.laying.ends.Goals as goal
 pub bounds-view-offer : goal.bounds-view-offer
 bounds-view-offer c = omega (arith, short c.args.view.tables.now c.args.view.kept, c.requires)
 
-pub overflow-cast-result : goal.overflow-cast-result
-overflow-cast-result c =
+pub overflow_cast-result : goal.overflow_cast-result
+overflow_cast-result c =
     let t = c.args.view.tables.now in
     let low : (row t.rows c.args.offer).first < 200 = omega (arith, few t c.args.view.kept, first_in t c.args.view.kept c.args.offer c.requires) in
     search rules
 
-pub overflow-cast-result-2 : goal.overflow-cast-result-2
-overflow-cast-result-2 c =
+pub overflow_cast-result-2 : goal.overflow_cast-result-2
+overflow_cast-result-2 c =
     let t = c.args.view.tables.now in
     let low : (row t.rows c.args.offer).second < 200 = omega (arith, few t c.args.view.kept, second_in t c.args.view.kept c.args.offer c.requires) in
     search rules

@@ -7,8 +7,8 @@ use Rattle.augments.proofs.Ways.{left_end, first_root, odd, known, pending, shor
 use Rattle.augments.proofs.laying.exchange.Goals as goal
 use Rattle.augments.proofs.laying.exchange.Goals.{then-i-eq0, else-i-eq0}
 
-pub overflow-cast-from : goal.overflow-cast-from
-overflow-cast-from c = let l = first_root c.args.view.tables.now c.args.view.kept c.args.root c.args.offers.now c.requires in search rules
+pub overflow_cast-from : goal.overflow_cast-from
+overflow_cast-from c = let l = first_root c.args.view.tables.now c.args.view.kept c.args.root c.args.offers.now c.requires in search rules
 
 pub loop-i-init : goal.loop-i-init
 loop-i-init c =
@@ -20,8 +20,8 @@ loop-i-init c =
       ap length c.new-stack.ensures.slots ∙ search rules,
     )
 
-pub next-root-to-requires : goal.next-root-to-requires
-next-root-to-requires c = known c.args.view.tables.now c.args.view.kept c.args.root c.args.offers.now c.requires c.loop-i.i c.loop-i-test.true
+pub next_root-to-requires : goal.next_root-to-requires
+next_root-to-requires c = known c.args.view.tables.now c.args.view.kept c.args.root c.args.offers.now c.requires c.loop-i.i c.loop-i-test.true
 
 pub join-requires : goal.join-requires
 join-requires c =
@@ -30,7 +30,7 @@ join-requires c =
     let es = c.args.offers.now in
     record {
       there = known t k c.args.root es c.requires c.loop-i.i c.loop-i-test.true;
-      nodes = (c.loop-i.invariant.2, c.next-root-to.ensures.low);
+      nodes = (c.loop-i.invariant.2, c.next_root-to.ensures.low);
       room = omega (arith, short t k c.args.root es c.requires, odd t k c.args.root es c.requires, c.loop-i.invariant.3, c.loop-i.invariant.4, c.loop-i-test.true, c.if-i-eq0.true);
     }
 
@@ -41,7 +41,7 @@ loop-i-preserved c =
     let offer = get_or c.args.offers.now c.loop-i.i 0 in
     elim c.if-i-eq0.branch [
       | then-i-eq0 w ↦
-          let e = step_even s c.args.offers.now c.loop-i.i c.loop-i.from c.if-i-eq0.from c.loop-i-test.true (w.from-is ∙ c.next-root-to.ensures.value)
+          let e = step_even s c.args.offers.now c.loop-i.i c.loop-i.from c.if-i-eq0.from c.loop-i-test.true (w.from-is ∙ c.next_root-to.ensures.value)
           c.loop-i.mates c.if-i-eq0.mates held (pile c.if-i-eq0.stack.slots.now c.if-i-eq0.stack.len)
           w.if-i-eq0.true (w.mates-is ∙ w.join.ensures.mates)
           (ap (λ z. pile z.slots.now z.len) w.stack-is ∙ w.join.ensures.tasks
@@ -50,20 +50,20 @@ loop-i-preserved c =
           let n = ap (λ z. length z.slots.now) w.stack-is in (
             e.0 ∙ c.loop-i.invariant.0,
             e.1 ∙ c.loop-i.invariant.1,
-            omega (arith, w.from-is, c.next-root-to.ensures.low),
+            omega (arith, w.from-is, c.next_root-to.ensures.low),
             omega (arith, l, w.join.ensures.len, c.loop-i.invariant.3, w.if-i-eq0.true),
             n ∙ w.join.ensures.count ∙ c.loop-i.invariant.4,
           )
       | else-i-eq0 w ↦
           let one : c.loop-i.i % 2 ≡ 1 = omega (arith, w.if-i-eq0.false) in
-          let e = step_odd s c.args.offers.now c.loop-i.i c.loop-i.from c.if-i-eq0.from c.loop-i-test.true (w.from-is ∙ c.next-root-to.ensures.value)
+          let e = step_odd s c.args.offers.now c.loop-i.i c.loop-i.from c.if-i-eq0.from c.loop-i-test.true (w.from-is ∙ c.next_root-to.ensures.value)
           c.loop-i.mates c.if-i-eq0.mates held (pile c.if-i-eq0.stack.slots.now c.if-i-eq0.stack.len)
           one w.mates-is (ap (λ z. pile z.slots.now z.len) w.stack-is) in
           let l = ap (λ z. z.len) w.stack-is in
           let n = ap (λ z. length z.slots.now) w.stack-is in (
             e.0 ∙ c.loop-i.invariant.0,
             e.1 ∙ c.loop-i.invariant.1,
-            omega (arith, w.from-is, c.next-root-to.ensures.low),
+            omega (arith, w.from-is, c.next_root-to.ensures.low),
             omega (arith, l, c.loop-i.invariant.3, one),
             n ∙ c.loop-i.invariant.4,
           )

@@ -14,8 +14,8 @@ loop-v-init c =
     let t = c.args.view.tables.now in
     filled_none 0 (parted (state t) c.args.node) (root_at (state t)) t.roots (roots_long t c.args.view.kept) (λ u l. refl)
 
-pub offset-bounds-roots-v : goal.offset-bounds-roots-v
-offset-bounds-roots-v c = let h = few c.args.view.tables.now c.args.view.kept in search rules
+pub offset_bounds-roots-v : goal.offset_bounds-roots-v
+offset_bounds-roots-v c = let h = few c.args.view.tables.now c.args.view.kept in search rules
 
 pub bounds-roots-v : goal.bounds-roots-v
 bounds-roots-v c = omega (arith, few c.args.view.tables.now c.args.view.kept)
@@ -23,8 +23,8 @@ bounds-roots-v c = omega (arith, few c.args.view.tables.now c.args.view.kept)
 pub holder-requires : goal.holder-requires
 holder-requires c = omega (arith, few c.args.view.tables.now c.args.view.kept)
 
-pub offset-bounds-roots-v-then-roots-v : goal.offset-bounds-roots-v-then-roots-v
-offset-bounds-roots-v-then-roots-v c = let h = few c.args.view.tables.now c.args.view.kept in search rules
+pub offset_bounds-roots-v-then-roots-v : goal.offset_bounds-roots-v-then-roots-v
+offset_bounds-roots-v-then-roots-v c = let h = few c.args.view.tables.now c.args.view.kept in search rules
 
 pub bounds-roots-v-then-roots-v : goal.bounds-roots-v-then-roots-v
 bounds-roots-v-then-roots-v c = omega (arith, few c.args.view.tables.now c.args.view.kept)
@@ -41,12 +41,12 @@ loop-v-preserved c =
     let was = c.loop-v.invariant.rest v (omega arith) low in
     elim c.if-roots-v.branch [
       | then-roots-v w ↦
-          subst (Filled 0 f g (v + 1)) (sym w.roots_is)
+          subst (Filled 0 f g (v + 1)) (sym w.roots-is)
           (filled_more 0 f g v c.loop-v.roots w.holder.result low
           (w.holder.ensures ∙ ap (λ (ps : List ℕ). holder s ps v) (sym (parts_there t (p - 200))) ∙ parted_in s p v c.loop-v-test.true (sym was ∙ w.if-roots-v.true))
           c.loop-v.invariant)
       | else-roots-v w ↦
-          subst (Filled 0 f g (v + 1)) (sym w.roots_is)
+          subst (Filled 0 f g (v + 1)) (sym w.roots-is)
           (filled_same 0 f g v c.loop-v.roots low (parted_out s p v c.loop-v-test.true (λ e. w.if-roots-v.false (was ∙ e))) c.loop-v.invariant)
     ]
 

@@ -1,4 +1,3 @@
-use Rattle.std.proofs.Common.{◌-◌}
 use Rattle.matching.specs.State.{root_at}
 use Rattle.tables.specs.States.{state}
 use Rattle.blossoms.proofs.Filling.{Filled}

@@ -8,8 +8,8 @@ pub returns-in-Some : goal.returns-in-Some
 returns-in-Some c =
     let n = length c.args.offers.now in
     free_at (state c.args.view.tables.now) c.args.root c.args.offers.now
-    c.if-is-none.ensures
-    (sym c.is_root.ensures ∙ c.if-not-is-root.false)
+    c.if-is_none.ensures
+    (sym c.is_root.ensures ∙ c.if-not-is_root.false)
     (and_from (eqb (n % 2) 1) (leb 3 n) (eq-eqb (n % 2) 1 (omega arith)) (le-leb 3 n (omega arith)))
-    c.follow.result c.follow.ensures c.in-default.field-0 c.in-default.is
-    c.lowest-free.result c.lowest-free.ensures c.in-Some.place c.in-Some.is
+    c.follow.result c.follow.ensures c.in_default.field-0 c.in_default.is
+    c.lowest_free.result c.lowest_free.ensures c.in-Some.place c.in-Some.is

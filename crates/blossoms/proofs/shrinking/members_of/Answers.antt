@@ -15,8 +15,8 @@ marked t marks v = ltb v t.members && get_or marks (root_at (state t) v) false
 pub loop-v-init : goal.loop-v-init
 loop-v-init c = filled_none false (marked c.args.view.tables.now c.args.marks.now) (λ u. false) _ (length-replicate 200 false) (λ u l. get_or-replicate 200 u false false l)
 
-pub offset-bounds-view-v : goal.offset-bounds-view-v
-offset-bounds-view-v c = let h = few c.args.view.tables.now c.args.view.kept in search rules
+pub offset_bounds-view-v : goal.offset_bounds-view-v
+offset_bounds-view-v c = let h = few c.args.view.tables.now c.args.view.kept in search rules
 
 pub bounds-view-v : goal.bounds-view-v
 bounds-view-v c = omega (arith, few c.args.view.tables.now c.args.view.kept)

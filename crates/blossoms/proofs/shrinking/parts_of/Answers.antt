@@ -6,8 +6,8 @@ use Rattle.blossoms.proofs.shrinking.parts_of.Goals as goal
 pub loop-i-init : goal.loop-i-init
 loop-i-init c = sofar_none (state c.args.view.tables.now) c.args.root c.args.offers.now
 
-pub overflow-cast-parts : goal.overflow-cast-parts
-overflow-cast-parts c =
+pub overflow_cast-parts : goal.overflow_cast-parts
+overflow_cast-parts c =
     omega (arith, at_low c.args.view.tables.now c.args.view.kept c.args.root c.args.offers.now c.requires c.loop-i.i c.loop-i.at c.loop-i.parts c.loop-i.marks c.loop-i.invariant c.loop-i-test.true)
 
 pub bounds-parts-i : goal.bounds-parts-i

@@ -23,8 +23,8 @@ loop-v-preserved c =
     let g = root_at (state t) in
     let v = c.loop-v.v in
     elim c.if-holds-v.branch [
-      | then-holds-v w ↦ subst (Filled 0 f g (v + 1)) (sym w.roots_is) (filled_more 0 f g v c.loop-v.roots c.args.root (omega arith) (sym (ap (λ b. cond b c.args.root (g v)) w.if-holds-v.true)) c.loop-v.invariant)
-      | else-holds-v w ↦ subst (Filled 0 f g (v + 1)) (sym w.roots_is) (filled_same 0 f g v c.loop-v.roots (omega arith) (sym (ap (λ b. cond b c.args.root (g v)) w.if-holds-v.false)) c.loop-v.invariant)
+      | then-holds-v w ↦ subst (Filled 0 f g (v + 1)) (sym w.roots-is) (filled_more 0 f g v c.loop-v.roots c.args.root (omega arith) (sym (ap (λ b. cond b c.args.root (g v)) w.if-holds-v.true)) c.loop-v.invariant)
+      | else-holds-v w ↦ subst (Filled 0 f g (v + 1)) (sym w.roots-is) (filled_same 0 f g v c.loop-v.roots (omega arith) (sym (ap (λ b. cond b c.args.root (g v)) w.if-holds-v.false)) c.loop-v.invariant)
     ]
 
 pub returns : goal.returns

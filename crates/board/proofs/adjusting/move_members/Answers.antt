@@ -1,4 +1,3 @@
-use Rattle.std.proofs.Common.{arith}
 use Rattle.board.proofs.Moving.{members_done}
 use Rattle.board.proofs.adjusting.move_members.Goals as goal
 

@@ -1,4 +1,4 @@
-use Rattle.std.proofs.Common.{◌≡◌, ◌<◌, ◌≢◌, length, sym, ap, ◌∙◌, arith, length-set, below_more}
+use Rattle.std.proofs.Common.{◌≢◌, sym, ◌∙◌, arith, length-set, below_more}
 use Rattle.std.proofs.lemmas.List.{ext_get_or, get_or-set_same, get_or-set_other}
 use Rattle.matching.specs.Sums.{below}
 use Rattle.matching.proofs.Sums.{length_below, getD_below}

@@ -1,14 +1,14 @@
 use Rattle.std.proofs.Common.{◌≡◌, ◌<◌, cond, ltb, None, ap, ◌∙◌, arith, rules}
 use Rattle.board.specs.Questions.{partner_of}
 use Rattle.tables.proofs.Keeping.{few}
-use Rattle.board.proofs.Partners.{Filled, filled_none, filled_more}
+use Rattle.board.proofs.Partners.{filled_none, filled_more}
 use Rattle.board.proofs.questions.partners.Goals as goal
 
 pub loop-v-init : goal.loop-v-init
 loop-v-init c = filled_none c.args.tables.now
 
-pub offset-bounds-partners-v : goal.offset-bounds-partners-v
-offset-bounds-partners-v c = let h = few c.args.tables.now c.requires in search rules
+pub offset_bounds-partners-v : goal.offset_bounds-partners-v
+offset_bounds-partners-v c = let h = few c.args.tables.now c.requires in search rules
 
 pub bounds-partners-v : goal.bounds-partners-v
 bounds-partners-v c = omega (arith, few c.args.tables.now c.requires)

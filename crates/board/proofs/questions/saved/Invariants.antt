@@ -1,4 +1,3 @@
-use Rattle.std.proofs.Common.{◌≡◌, ◌*◌, ◌≤◌}
 use Rattle.board.proofs.Savings.{Sofar}
 use Rattle.board.proofs.questions.saved.Given as goal
 

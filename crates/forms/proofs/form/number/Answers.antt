@@ -5,6 +5,6 @@ use Rattle.forms.proofs.form.number.Goals as goal
 
 pub value-requires : goal.value-requires
 value-requires c =
-    let read = c.in-ok-digits.field-0 in
+    let read = c.in_ok-digits.field-0 in
     numeral_digits c.args.text.now c.in-Numeral-default.digits.now read.1.now
-    (ap (λ w. Some (word_of w, read.1.now)) (sym c.in-Numeral-default.is-0) ∙ c.in-ok-digits.ensures.value)
+    (ap (λ w. Some (word_of w, read.1.now)) (sym c.in-Numeral-default.is-0) ∙ c.in_ok-digits.ensures.value)

@@ -1,10 +1,10 @@
-use Rattle.std.proofs.Common.{◌≡◌, Some, sym, refl, ap, ◌∙◌, arith, rules}
+use Rattle.std.proofs.Common.{◌≡◌, sym, refl, arith, rules}
 use Rattle.forms.specs.Forms.{amount}
 use Rattle.forms.proofs.Amounts.{amount_more, amount_all, below_power, digit_below, plain_few}
 use Rattle.forms.proofs.form.value.Goals as goal
 
 pub loop-d-init : goal.loop-d-init
-loop-d-init c = (refl, omega arith, plain_few c.args.digits.now (sym c.if-not-is-plain.ensures))
+loop-d-init c = (refl, omega arith, plain_few c.args.digits.now (sym c.if-not-is_plain.ensures))
 
 pub loop-d-preserved : goal.loop-d-preserved
 loop-d-preserved c =

@@ -5,7 +5,7 @@ use Rattle.matching.proofs.theorems.own_pairs.Goals as goal
 pub returns : goal.returns
 returns c = record {
   value = search rules;
-  held = λ s kept m f. omega (arith, own_size s kept, c.saturating-sub.ensures);
+  held = λ s kept m f. omega (arith, own_size s kept, c.saturating_sub.ensures);
   pairing = own_pairing;
   sizes = own_size;
 }

@@ -5,11 +5,11 @@ use Rattle.tokens.specs.Tokens.{belongs}
 use Rattle.tokens.proofs.Runs.{run_within, mark_at, open_at, close_at}
 use Rattle.tokens.proofs.token.next_token.Goals as goal
 
-pub split-at-requires : goal.split-at-requires
-split-at-requires c = omega (arith, run_within (belongs Digit) c.args.text.now, c.run-of.ensures)
+pub split_at-requires : goal.split_at-requires
+split_at-requires c = omega (arith, run_within (belongs Digit) c.args.text.now, c.run_of.ensures)
 
-pub split-at-requires-in-97-to-122 : goal.split-at-requires-in-97-to-122
-split-at-requires-in-97-to-122 c = omega (arith, run_within (belongs Letter) c.args.text.now, c.run-of-in-97-to-122.ensures)
+pub split_at-requires-in-97-to-122 : goal.split_at-requires-in-97-to-122
+split_at-requires-in-97-to-122 c = omega (arith, run_within (belongs Letter) c.args.text.now, c.run_of-in-97-to-122.ensures)
 
 pub returns-in-40 : goal.returns-in-40
 returns-in-40 c =

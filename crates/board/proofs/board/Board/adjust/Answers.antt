@@ -1,8 +1,8 @@
-use Rattle.std.proofs.Common.{◌≡◌, ℕ, true, false, Err, sym, refl, ap, ◌∙◌, subst, arith, rules}
+use Rattle.std.proofs.Common.{Err, sym, refl, ap, ◌∙◌, subst}
 use Rattle.std.proofs.lemmas.Result.{err_from_is_err_and}
 use Rattle.std.proofs.lemmas.Bool.{true≢false}
 use Rattle.faults.specs.Checks.{judged, unless_fault}
-use Rattle.steps.specs.Adjust.{adjust_fault, adjusted}
+use Rattle.steps.specs.Adjust.{adjusted}
 use Rattle.tables.specs.States.{state}
 use Rattle.board.specs.Moves.{all_moved}
 use Rattle.board.specs.Truth.{Shows}
@@ -10,12 +10,12 @@ use Rattle.board.proofs.Moving.{state_moved}
 use Rattle.board.proofs.Stepping.{room, above, low, full, cheap, adjust_held}
 use Rattle.board.proofs.board.Board.adjust.Goals as goal
 
-pub returns-in-err-common : goal.returns-in-err-common
-returns-in-err-common g c =
+pub returns-in_err-common : goal.returns-in_err-common
+returns-in_err-common g c =
     let t = c.args.self.now.tables in
     let ls = c.args.labels.now in
-    let p = err_from_is_err_and c.from-residual.result c.from-residual.ensures.1 in
-    let fault = c.in-err-common.ensures in
+    let p = err_from_is_err_and c.from_residual.result c.from_residual.ensures.1 in
+    let fault = c.in_err-common.ensures in
     record {
       value = p.1 ∙ ap Err p.2 ∙ sym (ap judged fault);
       after = sym (ap (λ o. unless_fault o (adjusted (state t) ls) (state t)) fault);
@@ -28,8 +28,8 @@ pub adjust-requires : goal.adjust-requires
 adjust-requires g c =
     let b = c.args.self.now in
     let ls = c.args.labels.now in
-    let common = c.in-ok-common.common in
-    let ready = c.in-ok-common.ensures in
+    let common = c.in_ok-common.common in
+    let ready = c.in_ok-common.ensures in
     record {
       few = room b.tables b.kept ls common ready;
       above = above b.tables b.kept ls common ready;
@@ -38,18 +38,18 @@ adjust-requires g c =
       cheap = cheap b.tables b.kept ls common ready;
     }
 
-pub invariant-of-self : goal.invariant-of-self
-invariant-of-self g c =
+pub invariant_of-self : goal.invariant_of-self
+invariant_of-self g c =
     let b = c.args.self.now in
-    (adjust_held b.tables b.kept c.args.labels.now c.in-ok-common.common c.in-ok-common.ensures c.adjust.new.tables c.adjust.ensures, tt)
+    record { kept = adjust_held b.tables b.kept c.args.labels.now c.in_ok-common.common c.in_ok-common.ensures c.adjust.new.tables c.adjust.ensures }
 
 pub returns : goal.returns
 returns g c =
     let b = c.args.self.now in
     let t = b.tables in
     let ls = c.args.labels.now in
-    let common = c.in-ok-common.common in
-    let ready = c.in-ok-common.ensures in
+    let common = c.in_ok-common.common in
+    let ready = c.in_ok-common.ensures in
     record {
       value = sym (ap judged ready.none);
       after = ap state c.adjust.ensures ∙ state_moved t ls common (full t b.kept ls common ready) ready.roots ∙ sym (ap (λ o. unless_fault o (adjusted (state t) ls) (state t)) ready.none);

@@ -1,4 +1,4 @@
-use Rattle.std.proofs.Common.{◌≡◌, ◌-◌, Err, sym, refl, ap, ◌∙◌, subst, arith, rules}
+use Rattle.std.proofs.Common.{◌-◌, Err, sym, refl, ap, ◌∙◌, subst}
 use Rattle.std.proofs.lemmas.Result.{err_from_is_err_and}
 use Rattle.std.proofs.lemmas.Bool.{true≢false}
 use Rattle.faults.specs.Checks.{judged, unless_fault}
@@ -10,11 +10,11 @@ use Rattle.board.specs.Truth.{Shows}
 use Rattle.board.proofs.Turning.{dissolved_is, dissolve_held, dissolve_low}
 use Rattle.board.proofs.board.Board.dissolve.Goals as goal
 
-pub returns-in-err-roots : goal.returns-in-err-roots
-returns-in-err-roots g c =
+pub returns-in_err-roots : goal.returns-in_err-roots
+returns-in_err-roots g c =
     let t = c.args.self.now.tables in
-    let p = err_from_is_err_and c.from-residual.result c.from-residual.ensures.1 in
-    let fault = c.in-err-roots.ensures in
+    let p = err_from_is_err_and c.from_residual.result c.from_residual.ensures.1 in
+    let fault = c.in_err-roots.ensures in
     record {
       value = p.1 ∙ ap Err p.2 ∙ sym (ap judged fault);
       after = sym (ap (λ o. unless_fault o (dissolved (state t) c.args.node) (state t)) fault);
@@ -23,30 +23,30 @@ returns-in-err-roots g c =
       shows = λ n rs top h. h;
     }
 
-pub free-ring-requires : goal.free-ring-requires
-free-ring-requires g c =
+pub free_ring-requires : goal.free_ring-requires
+free_ring-requires g c =
     let b = c.args.self.now in
-    let split = c.in-ok-roots.ensures in
-    dissolve_low b.tables c.args.node c.in-ok-roots.roots split.roots split.none b.kept
+    let split = c.in_ok-roots.ensures in
+    dissolve_low b.tables c.args.node c.in_ok-roots.roots split.roots split.none b.kept
 
-pub invariant-of-self : goal.invariant-of-self
-invariant-of-self g c =
+pub invariant_of-self : goal.invariant_of-self
+invariant_of-self g c =
     let b = c.args.self.now in
-    let split = c.in-ok-roots.ensures in
-    (subst Keeps (sym c.free-ring.ensures) (dissolve_held b.tables c.args.node c.in-ok-roots.roots split.roots b.kept split.none), tt)
+    let split = c.in_ok-roots.ensures in
+    record { kept = subst Keeps (sym c.free_ring.ensures) (dissolve_held b.tables c.args.node c.in_ok-roots.roots split.roots b.kept split.none) }
 
 pub returns : goal.returns
 returns g c =
     let t = c.args.self.now.tables in
     let p = c.args.node in
-    let rs = c.in-ok-roots.roots in
-    let split = c.in-ok-roots.ensures in
+    let rs = c.in_ok-roots.roots in
+    let split = c.in_ok-roots.ensures in
     record {
       value = sym (ap judged split.none);
-      after = ap state c.free-ring.ensures ∙ dissolved_is t p rs split.roots ∙ sym (ap (λ o. unless_fault o (dissolved (state t) p) (state t)) split.none);
+      after = ap state c.free_ring.ensures ∙ dissolved_is t p rs split.roots ∙ sym (ap (λ o. unless_fault o (dissolved (state t) p) (state t)) split.none);
       refused = λ h. absurd (true≢false (sym h));
       source = refl;
       shows = λ n rs' top h.
           let still : Shows n rs' top (ringed_anew t rs (p - 200) (free_place (place t (p - 200)))) = record { members = h.members; offers = h.offers; highest = h.highest } in
-          subst (Shows n rs' top) (sym c.free-ring.ensures) still;
+          subst (Shows n rs' top) (sym c.free_ring.ensures) still;
     }

@@ -1,4 +1,4 @@
-use Rattle.std.proofs.Common.{ap, ◌∙◌, rules}
+use Rattle.std.proofs.Common.{ap, ◌∙◌}
 use Rattle.faults.proofs.Judged.{takes_asked, takes_other}
 use Rattle.lengths.proofs.length_source.LengthSource.new.Goals as goal
 use Rattle.lengths.proofs.length_source.LengthSource.new.Goals.{in-Ok, in-Err}

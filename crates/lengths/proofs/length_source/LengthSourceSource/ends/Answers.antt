@@ -5,15 +5,15 @@ use Rattle.lengths.specs.LengthLaws.{length_laws}
 use Rattle.lengths.proofs.Offers.{row_there, row_past}
 use Rattle.lengths.proofs.length_source.LengthSourceSource.ends.Goals as goal
 
-pub overflow-cast-result : goal.overflow-cast-result
-overflow-cast-result c =
+pub overflow_cast-result : goal.overflow_cast-result
+overflow_cast-result c =
     let s = c.args.self.now in
     let few = members_few s.lengths.now s.stock.now s.cut s.sound in
     let h = c.in-Some.ensures.back c.in-Some.u c.in-Some.v refl in
     search rules
 
-pub overflow-cast-result-in-Some : goal.overflow-cast-result-in-Some
-overflow-cast-result-in-Some c =
+pub overflow_cast-result-in-Some : goal.overflow_cast-result-in-Some
+overflow_cast-result-in-Some c =
     let s = c.args.self.now in
     let few = members_few s.lengths.now s.stock.now s.cut s.sound in
     let h = c.in-Some.ensures.back c.in-Some.u c.in-Some.v refl in

@@ -5,8 +5,8 @@ use Rattle.lengths.specs.LengthLaws.{length_laws}
 use Rattle.lengths.proofs.Offers.{row_there, row_past}
 use Rattle.lengths.proofs.length_source.LengthSourceSource.shown.Goals as goal
 
-pub offset-bounds-self-u : goal.offset-bounds-self-u
-offset-bounds-self-u c =
+pub offset_bounds-self-u : goal.offset_bounds-self-u
+offset_bounds-self-u c =
     let s = c.args.self.now in
     let few = members_few s.lengths.now s.stock.now s.cut s.sound in
     let h = c.in-Some.ensures.back c.in-Some.u c.in-Some.v refl in
@@ -17,8 +17,8 @@ bounds-self-u c =
     let h = c.in-Some.ensures.back c.in-Some.u c.in-Some.v refl in
     search rules
 
-pub offset-bounds-self-v : goal.offset-bounds-self-v
-offset-bounds-self-v c =
+pub offset_bounds-self-v : goal.offset_bounds-self-v
+offset_bounds-self-v c =
     let s = c.args.self.now in
     let few = members_few s.lengths.now s.stock.now s.cut s.sound in
     let h = c.in-Some.ensures.back c.in-Some.u c.in-Some.v refl in

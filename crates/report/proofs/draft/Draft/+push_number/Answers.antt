@@ -15,7 +15,7 @@ returns t c =
     let last : after ≡ capped (held c.if-number-ge10.self ++ digit) = c.push.ensures in
     elim c.if-number-ge10.branch [
       | then-number-ge10 w ↦
-          let front : held c.if-number-ge10.self ≡ capped (was ++ numeral_of (n / 10)) = ap held w.self-is ∙ w.push-number.ensures in
+          let front : held c.if-number-ge10.self ≡ capped (was ++ numeral_of (n / 10)) = ap held w.self-is ∙ w.push_number.ensures in
           push_then after (held c.if-number-ge10.self) was (numeral_of (n / 10)) digit front last
           ∙ ap (λ ds. capped (was ++ ds)) (sym (numeral_step n (omega arith)))
       | else-number-ge10 w ↦

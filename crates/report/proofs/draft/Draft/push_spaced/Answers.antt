@@ -13,10 +13,10 @@ loop-number-preserved c =
     let ns = c.args.numbers.now in
     let i = c.loop-number.number-index in
     let now = held c.loop-number.self in
-    let after = held c.push-number.new.self in
+    let after = held c.push_number.new.self in
     let digits = numeral_of (get_or ns i 0) in
     grow spaced ns i 0 now (held c.args.self.now ++ spaced ns) c.loop-number.invariant (omega arith) after (32 ∷ digits) (spaced (drop (i + 1) ns)) refl
-    (push_then after (held c.push.new.self) now (32 ∷ []) digits c.push.ensures c.push-number.ensures)
+    (push_then after (held c.push.new.self) now (32 ∷ []) digits c.push.ensures c.push_number.ensures)
 
 pub returns : goal.returns
 returns c =

@@ -1,4 +1,4 @@
-use Rattle.std.proofs.Common.{◌<◌, arith, rules}
+use Rattle.std.proofs.Common.{◌<◌, arith}
 use Rattle.std.proofs.lemmas.Bool.{lt-ltb, le-ltb}
 use Rattle.tables.proofs.Keeping.{few, short, first_in, row_offered}
 use Rattle.tables.proofs.view.View.is_paired.Goals as goal
@@ -6,8 +6,8 @@ use Rattle.tables.proofs.view.View.is_paired.Goals as goal
 pub returns-then-offer-tables : goal.returns-then-offer-tables
 returns-then-offer-tables c = let h = le-ltb c.args.offer c.args.self.tables.now.offers c.if-offer-tables.true in rw h
 
-pub offset-bounds-tables-offer : goal.offset-bounds-tables-offer
-offset-bounds-tables-offer c = omega (arith, short c.args.self.tables.now c.args.self.kept, c.if-offer-tables.false)
+pub offset_bounds-tables-offer : goal.offset_bounds-tables-offer
+offset_bounds-tables-offer c = omega (arith, short c.args.self.tables.now c.args.self.kept, c.if-offer-tables.false)
 
 pub bounds-tables-offer : goal.bounds-tables-offer
 bounds-tables-offer c = omega (arith, short c.args.self.tables.now c.args.self.kept, c.if-offer-tables.false)

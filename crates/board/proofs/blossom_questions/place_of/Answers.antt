@@ -2,7 +2,7 @@ use Rattle.std.proofs.Common.{◌-◌, true, false, Some, arith}
 use Rattle.matching.proofs.Finite.{none_some, some_is}
 use Rattle.tables.specs.States.{state}
 use Rattle.board.proofs.Asking.{of_unused, of_used, unused_past, used_here}
-use Rattle.board.proofs.blossoms.place_of.Goals as goal
+use Rattle.board.proofs.blossom_questions.place_of.Goals as goal
 
 pub returns-then-node-ge300 : goal.returns-then-node-ge300
 returns-then-node-ge300 c =
