@@ -1,6 +1,7 @@
 -- A coarse layer of x over N: it shows x/N of what is shown below, rounded down. Assumes nothing.
 use Rattle.std.specs.Prelude.{ℕ, ◌+◌, ◌-◌, ◌*◌, ◌/◌, min, List, map}
 use Rattle.matching.specs.declared.row.Row.{Row}
+use Rattle.matching.specs.Rows.{row_with}
 
 -- x/N of a shown saving, rounded down
 abbrev pub part_of : ℕ → ℕ → ℕ → ℕ
@@ -8,7 +9,7 @@ part_of x N v = x * v / N
 
 -- an offer below, as the layer shows it: only the shown saving is another
 abbrev pub coarse_row : ℕ → ℕ → Row → Row
-coarse_row x N r = record { first = r.first; second = r.second; shown = part_of x N r.shown; ground = r.ground }
+coarse_row x N r = row_with r.first r.second (part_of x N r.shown) r.ground
 
 abbrev pub coarse_rows : ℕ → ℕ → List Row → List Row
 coarse_rows x N rs = map (coarse_row x N) rs

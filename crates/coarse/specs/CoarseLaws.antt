@@ -7,7 +7,7 @@ use Rattle.std.proofs.Math.Nat.{zero-div, mul-sub, mul-div-le, lt-mul-div-succ, 
 use Rattle.std.proofs.lemmas.List.{length-map}
 use Rattle.std.proofs.lemmas.Nat.{le-div}
 use Rattle.matching.specs.declared.row.Row.{Row}
-use Rattle.matching.specs.Rows.{row, AllSound}
+use Rattle.matching.specs.Rows.{row_with, row, AllSound}
 use Rattle.matching.specs.Pairings.{ends, Pairing, shown_of, ground_of}
 use Rattle.matching.specs.Sums.{total}
 use Rattle.matching.specs.Lawful.{Lawful}
@@ -19,7 +19,7 @@ none_of : (x N : ℕ) → part_of x N 0 ≡ 0
 none_of x N = ap (λ v. v / N) (mul-zero x) ∙ zero-div N
 
 pub row_coarse : (x N : ℕ) (rs : List Row) (e : ℕ) → row (coarse_rows x N rs) e ≡ coarse_row x N (row rs e)
-row_coarse x N [] e = ap (λ v. record { first = 0; second = 0; shown = v; ground = 0 }) (sym (none_of x N))
+row_coarse x N [] e = ap (λ v. row_with 0 0 v 0) (sym (none_of x N))
 row_coarse x N (r ∷ rs) zero = refl
 row_coarse x N (r ∷ rs) (suc e) = row_coarse x N rs e
 

@@ -1,13 +1,14 @@
 -- Worked states: a triangle from its beginning to floor 0, and a blossom inside a blossom. Assumes nothing.
 use Rattle.std.specs.Prelude.{◌≡◌, ℕ, ◌+◌, ◌-◌, ◌<◌, min, Bool, true, false, List, [], ◌∷◌, ◌++◌, length, replicate, Some, None, Option}
 use Rattle.matching.specs.declared.row.Row.{Row}
+use Rattle.matching.specs.Rows.{row_with}
 use Rattle.matching.specs.Pairings.{shown_of}
 use Rattle.matching.specs.State.{State, Blossom, no_blossom, weight, price_at, blossom_at, yz, eligible, pairing_in, loose_in, slack_in, InUse}
 use Rattle.matching.specs.Kept.{Kept, part_at}
 
 -- an offer between u and v that saves w
 abbrev pub offer : ℕ → ℕ → ℕ → Row
-offer u v w = record { first = u; second = v; shown = w; ground = w }
+offer u v w = row_with u v w w
 
 -- a list of n places, the last ones empty
 abbrev pub filled : {X : Type 0} → ℕ → X → List X → List X

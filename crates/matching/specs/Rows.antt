@@ -2,9 +2,13 @@
 use Rattle.std.specs.Prelude.{ℕ, ◌<◌, ◌≤◌, ◌≢◌, List, length, slice_index_or}
 use Rattle.matching.specs.declared.row.Row.{Row}
 
+-- an offer by its two members and its two savings
+abbrev pub row_with : (first second shown ground : ℕ) → Row
+row_with first second shown ground = record { first = first; second = second; shown = shown; ground = ground }
+
 -- what an offer past the last one shows
 abbrev pub no_row : Row
-no_row = record { first = 0; second = 0; shown = 0; ground = 0 }
+no_row = row_with 0 0 0 0
 
 -- the offer numbered e
 abbrev pub row : List Row → ℕ → Row

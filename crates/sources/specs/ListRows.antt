@@ -1,11 +1,12 @@
 -- A list of offers as a source: what it shows and how it carries. Assumes nothing.
 use Rattle.std.specs.Prelude.{ℕ, ◌*◌, ◌/◌, min, max, List, [], ◌∷◌, map}
 use Rattle.matching.specs.declared.row.Row.{Row}
+use Rattle.matching.specs.Rows.{row_with}
 use Rattle.sources.specs.declared.offer.Offer.{Offer}
 
 -- shown and ground are the saving
 abbrev pub list_row : Offer → Row
-list_row o = record { first = o.first; second = o.second; shown = o.saving; ground = o.saving }
+list_row o = row_with o.first o.second o.saving o.saving
 
 abbrev pub list_rows : List Offer → List Row
 list_rows os = map list_row os

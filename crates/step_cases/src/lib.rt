@@ -2,7 +2,7 @@
 #![tactic(auto)]
 
 #[cfg(test)]
-mod augments;
+mod exchanges;
 #[cfg(test)]
 mod looks;
 #[cfg(test)]

@@ -1,12 +1,12 @@
 -- Stock lengths, and what two members save when they are cut out of one. The rule of a saving stands here and nowhere else.
 -- Assumes nothing.
 use Rattle.std.specs.Prelude.{ℕ, ◌+◌, ◌-◌, ◌<◌, ◌≤◌, max, cond, List, [], ◌∷◌, Some, None, Option, nat_le}
-use Rattle.std.specs.List.{AllByRecursion as All}
+use Rattle.std.specs.List.{AllByRecursion}
 
 -- each stock length is above those before it
 abbrev pub Rising : List ℕ → Type 0
 Rising [] = Unit {0}
-Rising (s ∷ ss) = All (λ t. s < t) ss × Rising ss
+Rising (s ∷ ss) = AllByRecursion (λ t. s < t) ss × Rising ss
 
 -- the first stock length not below l: in a rising list, the smallest
 abbrev pub stock_of : List ℕ → ℕ → Option ℕ
@@ -15,8 +15,8 @@ stock_of (s ∷ ss) l = cond (nat_le l s) (Some s) (stock_of ss l)
 
 -- s is not below l, and nothing of the list lies between; without such an s, all of the list is below l
 abbrev pub Smallest : List ℕ → ℕ → Option ℕ → Type 0
-Smallest ss l None = All (λ t. t < l) ss
-Smallest ss l (Some s) = (l ≤ s) × All (λ t. l ≤ t → s ≤ t) ss
+Smallest ss l None = AllByRecursion (λ t. t < l) ss
+Smallest ss l (Some s) = (l ≤ s) × AllByRecursion (λ t. l ≤ t → s ≤ t) ss
 
 abbrev pub largest_stock : List ℕ → ℕ
 largest_stock [] = 0
