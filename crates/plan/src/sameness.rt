@@ -3,7 +3,7 @@ ghost use Rattle.std.specs.Prelude.{◌≡◌, Decides};
 ghost use Rattle.std.specs.Cmp.{partial_equiv_from_equiv};
 ghost use Rattle.std.specs.Cmp.Rules.{comparing};
 ghost use Rattle.std.proofs.Common.{rules};
-ghost use Rattle.plan.specs.Plans.{Same, is_same};
+ghost use Rattle.plan.specs.Plans.{Same, is_same, SameIsTested};
 
 use crate::plan::Plan;
 
@@ -15,6 +15,7 @@ impl PartialEq for Plan {
     fn eq(&self, other: &Plan) -> bool
         ensures value { result ≡ is_same self.now other.now }
         ensures decided { Decides result (Same self.now other.now) }
+        ensures tested { SameIsTested }
     {
         self.members == other.members
             && &self.partners[0..self.members] == &other.partners[0..other.members]

@@ -1,16 +1,14 @@
-use Rattle.std.proofs.Common.{◌≡◌, Decides, rules}
-use Rattle.std.specs.Option.{option_eq}
-use Rattle.std.specs.Cmp.Lexicographic.{pointwise}
-use Rattle.std.proofs.Common.{nat_eq}
-use Rattle.plan.specs.Plans.{partners_of}
-use Rattle.plan.proofs.Partners.{partners_decide}
+use Rattle.std.proofs.Common.{◌≡◌, Decides, sym, subst, rules}
+use Rattle.plan.specs.Plans.{Same, is_same}
+use Rattle.plan.proofs.Partners.{same_decides}
 use Rattle.plan.proofs.sameness.PlanPartialEq.eq.Goals as goal
 
-pub returns-then-self-other-clause-decided : goal.returns-then-self-other-clause-decided
-returns-then-self-other-clause-decided c =
+pub returns-then-self-other : goal.returns-then-self-other
+returns-then-self-other c =
     let p = c.args.self.now in
     let q = c.args.other.now in
-    let r = c.eq.result in
-    let compared : r ≡ pointwise (option_eq nat_eq) (partners_of p) (partners_of q) = search rules in
-    let told : Decides r (partners_of p ≡ partners_of q) = partners_decide (partners_of p) (partners_of q) r compared in
-    (λ t. (c.if-self-other.true, told.0 t), λ same. told.1 same.1)
+    let value : c.eq.result ≡ is_same p q = search rules in
+    record { value = value; decided = subst (λ r. Decides r (Same p q)) (sym value) (same_decides p q); tested = same_decides }
+
+pub returns-else-self-other-clause-tested : goal.returns-else-self-other-clause-tested
+returns-else-self-other-clause-tested c = same_decides
