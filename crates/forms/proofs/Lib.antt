@@ -1,4 +1,3 @@
 pub mod Amounts
-pub mod Keywords
 pub mod Laws
 pub mod Numbers

@@ -8,6 +8,7 @@ ghost use Rattle.numbering.specs.Numbering.{offers_among, number, twos_at, numbe
 pub const MOST_LENGTHS: usize = 89;
 
 // How many offers there are among so many members, which is also where the row of the next member begins.
+// For the crates beside, which have at most 89 members.
 pub fn offers_among(members: usize) -> usize
     requires { members ≤ 89 }
     ensures { result ≡ offers_among members }
