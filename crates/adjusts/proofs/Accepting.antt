@@ -1,22 +1,14 @@
 -- The faults of an adjust, one after the other. Assumes nothing.
-use Rattle.std.proofs.Common.{◌≡◌, ℕ, not, eqb, List, length, is_some, Some, None, Ok, Err, Option, Result, refl, ap, ◌∙◌, arith}
+use Rattle.std.proofs.Common.{◌≡◌, ℕ, not, eqb, List, length, is_some, Some, None, Option, ap, ◌∙◌}
 use Rattle.std.specs.Option.{option_map}
 use Rattle.std.proofs.lemmas.Bool.{eq-eqb, ne_eqb, eqb-true}
-use Rattle.faults.specs.Checks.{judged, or_else, unless}
+use Rattle.faults.specs.Checks.{or_else, unless}
 use Rattle.faults.specs.declared.layers.BoardFault.{BoardFault}
 use Rattle.faults.specs.declared.layers.BoardFault.TheVariants.{NotBegun, BadLabels, FloorZero}
 use Rattle.matching.specs.State.{State}
 use Rattle.steps.specs.Searches.{first_below, some_below}
 use Rattle.steps.proofs.Searches.{or_else_none, unless_none}
 use Rattle.steps.specs.Adjust.{offends, label_fault, zero_fault, bound_fault, adjust_fault}
-
-pub told_err : {E : Type 0} (o : Option E) (f : E) → ◌≡◌ {A = Result (Unit {0}) E} (Err f) (judged o) → o ≡ Some f
-told_err None f h = let z : ◌≡◌ {A = ℕ} 0 1 = cc in absurd (omega arith)
-told_err (Some g) f h = cc
-
-pub told_ok : {E : Type 0} (o : Option E) (u : Unit {0}) → ◌≡◌ {A = Result (Unit {0}) E} (Ok u) (judged o) → o ≡ None
-told_ok None u h = refl
-told_ok (Some g) u h = let z : ◌≡◌ {A = ℕ} 0 1 = cc in absurd (omega arith)
 
 -- the labels that nothing stands against are as many as the members
 pub labels_counted : (s : State) (ls : List ℕ) → label_fault s ls ≡ None → length ls ≡ s.members
@@ -28,9 +20,6 @@ module _ (s : State) (ls : List ℕ) where
 
   abbrev after_floor : Option BoardFault
   after_floor = or_else (unless (not (eqb s.floor 0)) FloorZero) after_zero
-
-  pub not_begun : s.begun ≡ None → adjust_fault s ls ≡ Some NotBegun
-  not_begun e = ap (λ (b : Option ℕ). or_else (unless (is_some b) NotBegun) (or_else (label_fault s ls) after_floor)) e
 
   module _ (k : ℕ) (begun : s.begun ≡ Some k) where
     first : adjust_fault s ls ≡ or_else (label_fault s ls) after_floor

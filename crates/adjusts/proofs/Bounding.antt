@@ -1,7 +1,8 @@
 -- The first offender of a search, and how an adjust moves the prices and the offers of the tables. Assumes nothing.
-use Rattle.std.proofs.Common.{◌≡◌, ℕ, ◌+◌, ◌-◌, ◌*◌, ◌<◌, ◌≤◌, Bool, true, false, cond, not, ◌&&◌, ◌||◌, eqb, ltb, leb, ◌≢◌, List, length, get_or, Some, None, Ok, Err, Option, sym, refl, ap, ◌∙◌, subst, inl, inr, arith}
+use Rattle.std.proofs.Common.{◌≡◌, ℕ, ◌+◌, ◌-◌, ◌*◌, ◌<◌, ◌≤◌, Bool, true, false, cond, not, ◌&&◌, ◌||◌, eqb, ltb, leb, ◌≢◌, List, length, get_or, Some, None, Ok, Err, Option, sym, ap, ◌∙◌, subst, inl, inr, arith}
 use mathlib.Core.Bool.{Bool-set}
 use mathlib.Core.Logic.{∥∥₁_elim}
+use Rattle.std.proofs.Math.Bool.{or-false}
 use Rattle.std.proofs.lemmas.Bool.{and_from, and_parts, cases_Bool, cond_both, le-leb, ltb-true, not_from_true, not_from_false, or_cases, or_left, or_right}
 use Rattle.faults.specs.Checks.{judged}
 use Rattle.faults.specs.declared.layers.BoardFault.TheVariants.{InAtZero}
@@ -18,14 +19,10 @@ use Rattle.steps.proofs.Offers.{inner_offers_stay, outer_offers_move}
 use Rattle.steps.proofs.Labels.{by_label, adjusted_alike}
 use Rattle.tables.specs.declared.tables.Blossom as tables
 use Rattle.tables.specs.declared.tables.Tables.{Tables}
-use Rattle.tables.specs.States.{offered, state, no_place}
+use Rattle.tables.specs.States.{offered, blossom_of, state}
 use Rattle.adjusts.specs.Labels.{RootLabels}
 use Rattle.tables.specs.Kept.{Held, Keeps}
 use Rattle.tables.proofs.Keeping.{row_offered, blossom_there}
-
-or_false : (b : Bool) → (b || false) ≡ b
-or_false true = refl
-or_false false = refl
 
 -- a ring offer: its blossom and its place there
 record Joining (s : State) (e : ℕ) : Type 0 where
@@ -90,7 +87,7 @@ module _ (s : State) (ls : List ℕ) (e : ℕ) (kept : Kept s) (known : e < leng
       unjoined : (paired_in s e || joins_parts (adjusted s ls) e) ≡ paired_in s e
       unjoined = elim (cases_Bool (joins_parts (adjusted s ls) e)) [
         | inl h ↦ absurd (d (joined_root (joining h)))
-        | inr h ↦ ap (λ b. paired_in s e || b) h ∙ or_false (paired_in s e)
+        | inr h ↦ ap (λ b. paired_in s e || b) h ∙ or-false (paired_in s e)
       ]
 
   -- and one inside a root stays in them
@@ -120,8 +117,8 @@ pub moved_low : (l y m : ℕ) → y ≤ m → moved l y ≤ m + 1
 moved_low l y m h = by_label l (y - 1) (y + 1) y (λ z. z ≤ m + 1) (λ e. omega arith) (λ e. omega arith) (omega arith)
 
 -- whether the place i has an in root blossom of price 0, by the labels of the roots
-abbrev pub in_zero : List tables.Blossom → List ℕ → ℕ → Bool
-in_zero bs rl i = (get_or bs i no_place).used && (eqb (get_or rl (200 + i) 0) 2 && eqb (get_or bs i no_place).price 0)
+abbrev pub in_zero : List (Option tables.Blossom) → List ℕ → ℕ → Bool
+in_zero bs rl i = (blossom_of (get_or bs i None)).used && (eqb (get_or rl (200 + i) 0) 2 && eqb (blossom_of (get_or bs i None)).price 0)
 
 module _ (t : Tables) (rl ls : List ℕ) (labels : RootLabels (state t) ls rl) where
   -- the test by the labels of the members
@@ -131,7 +128,7 @@ module _ (t : Tables) (rl ls : List ℕ) (labels : RootLabels (state t) ls rl) w
   zero_told : (i : ℕ) → i < 100 → at_zero i ≡ in_zero t.blossoms rl i
   zero_told i l =
       ap (λ (b : Blossom). b.used && (eqb (root_label (state t) ls (200 + i)) 2 && eqb b.price 0)) (blossom_there t i)
-      ∙ ap (λ x. (get_or t.blossoms i no_place).used && (eqb x 2 && eqb (get_or t.blossoms i no_place).price 0)) (sym (labels (200 + i) (omega arith)))
+      ∙ ap (λ x. (blossom_of (get_or t.blossoms i None)).used && (eqb x 2 && eqb (blossom_of (get_or t.blossoms i None)).price 0)) (sym (labels (200 + i) (omega arith)))
 
   pub zero_free : ((u : ℕ) → u < 100 → in_zero t.blossoms rl u ≡ false) → Ok tt ≡ judged (zero_fault (state t) ls)
   zero_free h = judged_none (λ i. InAtZero (200 + i)) at_zero 100 (λ u l. zero_told u l ∙ h u l)

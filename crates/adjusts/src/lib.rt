@@ -5,8 +5,8 @@ ghost use Rattle.std.specs.Prelude.{◌≡◌};
 ghost use Rattle.tables.specs.States.{state};
 ghost use Rattle.adjusts.specs.Adjusts.{Judges};
 
-use crate::bounds::{check_bounds, check_zero};
-use crate::labels::{check_labels, root_labels};
+use crate::bounds::check_zero;
+use crate::labels::{Labelling, check_labels};
 use faults::layers::BoardFault;
 use tables::view::View;
 
@@ -17,16 +17,14 @@ mod labels;
 pub fn check_adjust(view: View<'_>, labels: &[u8]) -> Result<[u8; 300], BoardFault>
     ensures { Judges (state view.entry.tables.now) labels.now result }
 {
-    let tables = view.tables;
-    let Some(k) = tables.begun else {
-        return Err(BoardFault::NotBegun);
-    };
-    check_labels(tables, labels)?;
-    if tables.floor == 0 {
+    let k = view.tables.begun.ok_or(BoardFault::NotBegun)?;
+    check_labels(view, labels)?;
+    if view.tables.floor == 0 {
         return Err(BoardFault::FloorZero);
     }
-    let common = root_labels(tables, labels);
-    check_zero(tables, &common)?;
-    check_bounds(view, k, labels)?;
+    let labelling = Labelling { view, labels };
+    let common = labelling.root_labels();
+    check_zero(view.tables, &common)?;
+    labelling.check_bounds(k)?;
     Ok(common)
 }

@@ -1,5 +1,5 @@
 -- The offers of a sheet at the front of the slots. Assumes nothing.
-use Rattle.std.proofs.Common.{◌≡◌, ℕ, ◌-◌, ◌≤◌, List, length, take, drop, refl, ap, ◌∙◌, arith}
+use Rattle.std.proofs.Common.{◌≡◌, ℕ, ◌≤◌, List, length, take, drop, refl, sym, ap, ◌∙◌, arith}
 use Rattle.std.proofs.lemmas.List.{take_at, length-append}
 use Rattle.sources.specs.declared.offer.Offer.{Offer}
 use Rattle.sheet.specs.Sheets.{placed}
@@ -8,7 +8,5 @@ module _ (os slots after : List Offer) (count : ℕ) (same : after ≡ placed os
   pub offers_fit : count ≤ length after
   offers_fit = omega (arith, ap length same, length-append os (drop (length os) slots))
 
-  pub front : take (count - 0) after ≡ os
-  front =
-      let whole : count - 0 ≡ length os = omega arith in
-      ap (λ k. take k after) whole ∙ ap (take (length os)) same ∙ take_at os (drop (length os) slots) (length os) refl
+  pub front : take count after ≡ os
+  front = ap (λ k. take k after) (sym counted) ∙ ap (take (length os)) same ∙ take_at os (drop (length os) slots) (length os) refl

@@ -35,7 +35,7 @@ pub fn plan_of(input: &[u8], slots: &mut [Offer]) -> Result<Plan, Fault>
 {
     let sheet = read(input, slots)?;
     let count = sheet.offers;
-    plan_over(sheet, &slots[0..count])
+    plan_over(sheet, &slots[..count])
 }
 
 // Answers a sheet: writes its plan, or its refusal, into a buffer.

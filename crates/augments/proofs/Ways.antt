@@ -1,17 +1,16 @@
 -- The way of an accepted augment, offer by offer, and that its tasks can be done. Assumes nothing.
-use Rattle.std.proofs.Common.{◌≡◌, ℕ, ◌+◌, ◌%◌, ◌<◌, ◌≤◌, List, [], ◌∷◌, length, get_or, drop, None, Option, sym, refl, ap, ◌∙◌, subst, ⊎_elim, arith}
+use Rattle.std.proofs.Common.{◌≡◌, ℕ, ◌+◌, ◌%◌, ◌<◌, ◌≤◌, List, [], ◌∷◌, length, get_or, drop, None, Option, sym, refl, ap, ◌∙◌, subst, arith}
 use mathlib.Core.Logic.{∥∥₁_elim, ∥∥₁_map}
 use native.Mathlib.Bridge.{le_prop}
 use native.Mathlib.Nat.{ℕ_set}
 use Rattle.std.proofs.lemmas.List.{drop_more, drop_all}
-use Rattle.std.proofs.lemmas.Bool.{cases_eq}
 use Rattle.matching.specs.State.{State}
 use Rattle.matching.specs.Kept.{Kept}
 use Rattle.paths.specs.Bare.{Link, by_twos, joined, Task, piled}
 use Rattle.paths.specs.Walk.{across}
 use Rattle.paths.specs.Augment.{augment_fault, way}
 use Rattle.paths.proofs.Rings.{rings_of}
-use Rattle.paths.proofs.Walks.{Accepted, accepted, front, last_link, way_split, path_of, turn_joins, join_at, step_at_odd, root_node}
+use Rattle.paths.proofs.Walks.{Accepted, accepted, front, last_link, way_split, path_of, root_node}
 use Rattle.paths.proofs.Paths.{path_ready, path_apart}
 use Rattle.tables.specs.declared.tables.Tables.{Tables}
 use Rattle.tables.specs.States.{state}
@@ -80,17 +79,6 @@ module _ (t : Tables) (k : Keeps t) (r : ℕ) (es : List ℕ) (none : augment_fa
 
   pub odd : length es % 2 ≡ 1
   odd = ∥∥₁_elim k (ℕ_set _ _) (λ h. (taken h).odd)
-
-  pub known : (i : ℕ) → i < length es → get_or es i 0 < t.offers
-  known i l = ∥∥₁_elim k le_prop by
-    where
-      by : Held t → get_or es i 0 < t.offers
-      by h = ⊎_elim
-          (λ even.
-          let j = join_at (state t) r es i l even in
-          omega (arith, (turn_joins (state t) _ r es j.0 (taken h).steps j.1).1.known, j.2, h.full))
-          (λ ne. omega (arith, (step_at_odd (state t) _ r es i (taken h).steps l (omega arith)).1.known, h.full))
-          (cases_eq (i % 2) 0)
 
   pub pending : ∥ Pending (state t) (piled (state t) (by_twos (way (state t) r es)) []) ∥₁
   pending = ∥∥₁_map k (λ h. pending_of (state t) r es h.kept (taken h))

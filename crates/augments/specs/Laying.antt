@@ -4,7 +4,15 @@ use Rattle.matching.specs.State.{State, blossom_at}
 use Rattle.stack.specs.Items.{items}
 use Rattle.paths.specs.Bare.{Link, ring, by_twos, Task, piled}
 use Rattle.paths.proofs.Laid.{Ready, ApartTasks}
+use Rattle.tables.specs.declared.tables.Link.{Link as Entry}
 use Rattle.augments.specs.declared.laying.Task.{Task as Chore}
+
+-- a link as the tables number it
+abbrev pub link_of : Entry → Link
+link_of l = record { part = l.part; offer = l.join }
+
+abbrev pub links_in : List Entry → List Link
+links_in ls = map link_of ls
 
 -- a task as the tables number it
 abbrev pub task_of : Chore → Task

@@ -1,13 +1,14 @@
 // Laying bare, by a loop over a stack of what is still to be laid bare.
-ghost use Rattle.std.specs.Prelude.{◌≡◌, ◌+◌, ◌-◌, ◌<◌, ◌≤◌, true, [], ◌∷◌, length, if◌then◌else◌, Some, None, nat_lt, slice_set};
-ghost use Rattle.matching.specs.State.{first_of, second_of, node_holds};
+ghost use Rattle.std.specs.Prelude.{◌≡◌, ◌+◌, ◌-◌, ◌<◌, ◌≤◌, true, [], ◌∷◌, length, if◌then◌else◌, None, nat_lt, position};
+ghost use Rattle.matching.specs.State.{node_holds};
 ghost use Rattle.paths.specs.Bare.{ring, by_twos, joined, end_in, piled, Laid};
-ghost use Rattle.paths.specs.Walk.{across};
 ghost use Rattle.paths.specs.Augment.{augment_fault, Exchanged};
 ghost use Rattle.tables.specs.States.{state};
-ghost use Rattle.augments.specs.Laying.{pile, link_at, turned, opened, Pending};
+ghost use Rattle.augments.specs.Laying.{links_in, pile, link_at, turned, opened, Pending};
 
 use stack::stack::Stack;
+use tables::node::Node;
+use tables::tables::Link;
 use tables::view::View;
 use walks::across;
 
@@ -18,61 +19,40 @@ struct Task {
     member: u16,
 }
 
-// Whether a node holds a member.
-fn holds(view: View<'_>, node: u16, member: u16) -> bool
-    requires { (node < 300) × (member < 200) }
-    ensures { result ≡ node_holds (state view.entry.tables.now) node member }
-{
-    if node < 200 {
-        return node == member;
-    }
-    let blossom = &view.tables.blossoms[(node - 200) as usize];
-    blossom.used && blossom.holds[member as usize]
+// The mates in the making, and what is still to be laid bare.
+#[derive(Drop)]
+struct Laying<'s> {
+    mates: [Option<u16>; 200],
+    stack: Stack<'s, Task>,
+    ghost full: { length stack.slots.now ≡ 200 },
 }
 
-// The two members of an offer.
-fn ends(view: View<'_>, offer: u16) -> (u16, u16)
-    requires { offer < view.tables.now.offers }
-    ensures first { result.0 ≡ first_of (state view.entry.tables.now) offer }
-    ensures second { result.1 ≡ second_of (state view.entry.tables.now) offer }
-    ensures low { (result.0 < 200) × (result.1 < 200) }
+// The ring of a blossom.
+fn ring_of<'a>(view: View<'a>, node: u16) -> &'a [Link]
+    requires { 200 ≤ node }
+    ensures value { links_in result.now ≡ ring (state view.entry.tables.now) node }
+    ensures few { length result.now ≤ 200 }
 {
-    let row = view.tables.rows[offer as usize];
-    (row.first as u16, row.second as u16)
+    view.ring(node as usize - 200)
 }
 
 // The end of an offer that lies in a node.
 fn end_in(view: View<'_>, node: u16, offer: u16) -> u16
-    requires { (node < 300) × (offer < view.tables.now.offers) }
     ensures { result ≡ end_in (state view.entry.tables.now) node offer }
 {
-    let (first, second) = ends(view, offer);
-    if holds(view, node, first) {
-        first
+    let row = view.row(offer as usize);
+    if view.holds(node as usize, row.first as usize) {
+        row.first as u16
     } else {
-        second
+        row.second as u16
     }
 }
 
-// Pairs the two members of an offer.
-fn pair(view: View<'_>, mates: &mut [Option<u16>; 200], offer: u16)
-    requires { offer < view.tables.now.offers }
-    ensures { mates.new ≡ slice_set (slice_set mates.old (first_of (state view.entry.tables.now) offer) (Some offer)) (second_of (state view.entry.tables.now) offer) (Some offer) }
+fn first_holding(view: View<'_>, ring: &[Link], member: usize) -> Option<usize>
+    ensures { result ≡ position (λ l. node_holds (state view.entry.tables.now) l.part member) ring.now }
 {
-    let (first, second) = ends(view, offer);
-    mates[first as usize] = Some(offer);
-    mates[second as usize] = Some(offer);
-}
-
-// Puts a task on the stack, where there is room for it.
-fn add(stack: &mut Stack<'_, Task>, node: u16, member: u16)
-    requires { stack.old.len < length stack.old.slots.now }
-    ensures tasks { pile stack.new.slots.now stack.new.len ≡ (record { node = node; member = member } ∷ pile stack.old.slots.now stack.old.len) }
-    ensures len { stack.new.len ≡ stack.old.len + 1 }
-    ensures count { length stack.new.slots.now ≡ length stack.old.slots.now }
-{
-    // There is room, so nothing is refused.
-    let _ = stack.push(Task { node, member });
+    ring.iter()
+        .position(|link| view.holds(link.part as usize, member))
 }
 
 // The place of the part of a blossom that holds a member.
@@ -82,15 +62,8 @@ fn seat(view: View<'_>, node: u16, member: u16) -> usize
     ensures within { result < length (ring (state view.entry.tables.now) node) }
     ensures found { node_holds (state view.entry.tables.now) (link_at (state view.entry.tables.now) node result).part member ≡ true }
 {
-    let blossom = &view.tables.blossoms[(node - 200) as usize];
-    let len = blossom.ring_len();
-    for i in 0..len {
-        if holds(view, blossom.parts[i], member) {
-            return i;
-        }
-    }
-    // Not reached: some part holds it.
-    len
+    // Some part holds it, so 0 does not stand for none.
+    first_holding(view, ring_of(view, node), member as usize).unwrap_or(0)
 }
 
 // A place past the end of a ring is one from its start.
@@ -100,87 +73,67 @@ fn wrap(place: usize, len: usize) -> usize
     if place < len { place } else { place - len }
 }
 
-// Pairs an offer between two nodes, and stacks up that each is to be laid bare where the offer ends.
-fn join(
-    view: View<'_>,
-    mates: &mut [Option<u16>; 200],
-    stack: &mut Stack<'_, Task>,
-    offer: u16,
-    one: u16,
-    other: u16,
-)
-    requires there { offer < view.tables.now.offers }
-    requires nodes { (one < 300) × (other < 300) }
-    requires room { stack.old.len + 2 ≤ length stack.old.slots.now }
-    ensures mates { mates.new ≡ joined (state view.entry.tables.now) (record { offer = offer; one = one; other = other } ∷ []) mates.old }
-    ensures tasks { pile stack.new.slots.now stack.new.len ≡ piled (state view.entry.tables.now) (record { offer = offer; one = one; other = other } ∷ []) (pile stack.old.slots.now stack.old.len) }
-    ensures len { stack.new.len ≡ stack.old.len + 2 }
-    ensures count { length stack.new.slots.now ≡ length stack.old.slots.now }
-{
-    pair(view, mates, offer);
-    add(stack, one, end_in(view, one, offer));
-    add(stack, other, end_in(view, other, offer));
-}
-
-// Opens a blossom at a member: pairs every second offer of its ring, counted from the part that holds the member, and
-// stacks up what is to be laid bare in the parts. Returns the place of that part.
-fn open(
-    view: View<'_>,
-    mates: &mut [Option<u16>; 200],
-    stack: &mut Stack<'_, Task>,
-    node: u16,
-    member: u16,
-) -> usize
-    requires blossom { 200 ≤ node }
-    requires held { node_holds (state view.tables.now) node member ≡ true }
-    requires room { stack.old.len + length (ring (state view.tables.now) node) ≤ length stack.old.slots.now }
-    ensures within { result < length (ring (state view.entry.tables.now) node) }
-    ensures found { node_holds (state view.entry.tables.now) (link_at (state view.entry.tables.now) node result).part member ≡ true }
-    ensures mates { mates.new ≡ joined (state view.entry.tables.now) (by_twos (turned (state view.entry.tables.now) node result)) mates.old }
-    ensures tasks { pile stack.new.slots.now stack.new.len ≡ opened (state view.entry.tables.now) (record { node = node; member = member }) result (pile stack.old.slots.now stack.old.len) }
-    ensures count { length stack.new.slots.now ≡ length stack.old.slots.now }
-{
-    let at = seat(view, node, member);
-    let blossom = &view.tables.blossoms[(node - 200) as usize];
-    let len = blossom.ring_len();
-    add(stack, blossom.parts[at], member);
-    let mut done = 0;
-    while done + 2 < len {
-        let one = wrap(at + done + 1, len);
-        let other = wrap(at + done + 2, len);
-        join(
-            view,
-            mates,
-            stack,
-            blossom.joins[one],
-            blossom.parts[one],
-            blossom.parts[other],
-        );
-        done += 2;
+impl Laying<'_> {
+    // Puts a task on the stack, where there is room for it.
+    fn add(&mut self, node: u16, member: u16)
+        requires { self.old.stack.len < 200 }
+        ensures mates { self.new.mates ≡ self.old.mates }
+        ensures tasks { pile self.new.stack.slots.now self.new.stack.len ≡ (record { node = node; member = member } ∷ pile self.old.stack.slots.now self.old.stack.len) }
+        ensures len { self.new.stack.len ≡ self.old.stack.len + 1 }
+    {
+        // There is room, so nothing is refused.
+        let _ = self.stack.push(Task { node, member });
     }
-    at
-}
 
-// Does what is on the stack.
-fn drain(view: View<'_>, mates: &mut [Option<u16>; 200], stack: &mut Stack<'_, Task>)
-    requires pending { ∥ Pending (state view.tables.now) (pile stack.old.slots.now stack.old.len) ∥₁ }
-    requires room { length stack.old.slots.now ≡ 200 }
-    ensures { Laid (state view.entry.tables.now) (pile stack.old.slots.now stack.old.len) mates.old mates.new }
-{
-    while let Some(task) = stack.pop() {
-        if task.node >= 200 {
-            let _ = open(view, mates, stack, task.node, task.member);
+    // Pairs an offer between two nodes, and stacks up that each is to be laid bare where the offer ends.
+    fn join(&mut self, view: View<'_>, offer: u16, one: u16, other: u16)
+        requires { self.old.stack.len + 2 ≤ 200 }
+        ensures mates { self.new.mates ≡ joined (state view.entry.tables.now) (record { offer = offer; one = one; other = other } ∷ []) self.old.mates }
+        ensures tasks { pile self.new.stack.slots.now self.new.stack.len ≡ piled (state view.entry.tables.now) (record { offer = offer; one = one; other = other } ∷ []) (pile self.old.stack.slots.now self.old.stack.len) }
+        ensures len { self.new.stack.len ≡ self.old.stack.len + 2 }
+    {
+        let row = view.row(offer as usize);
+        self.mates[row.first as usize] = Some(offer);
+        self.mates[row.second as usize] = Some(offer);
+        self.add(one, end_in(view, one, offer));
+        self.add(other, end_in(view, other, offer));
+    }
+
+    // Opens a blossom at a member: pairs every second offer of its ring, counted from the part that holds the member, and
+    // stacks up what is to be laid bare in the parts. Returns the place of that part.
+    fn open(&mut self, view: View<'_>, task: Task) -> usize
+        requires blossom { 200 ≤ task.node }
+        requires held { node_holds (state view.tables.now) task.node task.member ≡ true }
+        requires room { self.old.stack.len + length (ring (state view.tables.now) task.node) ≤ 200 }
+        ensures within { result < length (ring (state view.entry.tables.now) task.node) }
+        ensures found { node_holds (state view.entry.tables.now) (link_at (state view.entry.tables.now) task.node result).part task.member ≡ true }
+        ensures mates { self.new.mates ≡ joined (state view.entry.tables.now) (by_twos (turned (state view.entry.tables.now) task.node result)) self.old.mates }
+        ensures tasks { pile self.new.stack.slots.now self.new.stack.len ≡ opened (state view.entry.tables.now) (record { node = task.node; member = task.member }) result (pile self.old.stack.slots.now self.old.stack.len) }
+    {
+        let at = seat(view, task.node, task.member);
+        let ring = ring_of(view, task.node);
+        let len = ring.len();
+        self.add(ring[at].part, task.member);
+        // A ring is odd, so its other parts come two by two, from any place on.
+        for i in 0..len / 2 {
+            let one = ring[wrap(at + 2 * i + 1, len)];
+            let other = ring[wrap(at + 2 * i + 2, len)];
+            self.join(view, one.join, one.part, other.part);
+        }
+        at
+    }
+
+    // Does what is on the stack.
+    fn drain(&mut self, view: View<'_>)
+        requires { ∥ Pending (state view.tables.now) (pile self.old.stack.slots.now self.old.stack.len) ∥₁ }
+        ensures { Laid (state view.entry.tables.now) (pile self.old.stack.slots.now self.old.stack.len) self.old.mates self.new.mates }
+    {
+        while let Some(task) = self.stack.pop() {
+            if let Node::Blossom(_) = Node::from(task.node as usize) {
+                let _ = self.open(view, task);
+            }
         }
     }
-}
-
-// The root that an offer leads to from another.
-fn next_root(view: View<'_>, offer: u16, root: u16) -> u16
-    requires { offer < view.tables.now.offers }
-    ensures value { result ≡ across (state view.entry.tables.now) offer root }
-    ensures low { result < 300 }
-{
-    across(view, offer as usize, root as usize) as u16
 }
 
 // The mates after the exchange along the list: every offer at an even position is paired, and the roots on the way are laid bare where it ends.
@@ -188,17 +141,20 @@ pub(crate) fn exchange(view: View<'_>, root: usize, offers: &[u16]) -> [Option<u
     requires { augment_fault (state view.tables.now) root offers.now ≡ None }
     ensures { Exchanged (state view.entry.tables.now) root offers.now result }
 {
-    let mut mates = view.tables.mates;
     let mut slots = [Task { node: 0, member: 0 }; 200];
-    let mut stack = Stack::new(&mut slots);
+    let mut laying = Laying {
+        mates: view.tables.mates,
+        stack: Stack::new(&mut slots),
+    };
     let mut from = root as u16;
+    // A loop: each offer is taken from the root that the one before led to.
     for (i, offer) in offers.iter().enumerate() {
-        let to = next_root(view, *offer, from);
+        let to = across(view, *offer as usize, from as usize);
         if i % 2 == 0 {
-            join(view, &mut mates, &mut stack, *offer, from, to);
+            laying.join(view, *offer, from, to);
         }
         from = to;
     }
-    drain(view, &mut mates, &mut stack);
-    mates
+    laying.drain(view);
+    laying.mates
 }

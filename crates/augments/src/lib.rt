@@ -12,7 +12,7 @@ use tables::view::View;
 mod checking;
 mod laying;
 
-// The mates after the step, unless something stands against it.
+// The mates after the step, unless something stands against it. Its root and its list stand apart, as a caller gives them.
 pub fn mates_after(
     view: View<'_>,
     root: usize,

@@ -9,14 +9,15 @@ use Rattle.matching.specs.Sums.{below}
 use Rattle.steps.specs.Adjust.{among}
 use Rattle.rings.specs.Shrink.{lies_in, ring_of}
 use Rattle.tables.specs.declared.tables.Tables.{Tables}
-use Rattle.tables.specs.States.{state}
+use Rattle.tables.specs.States.{blossom_of, state}
+use lib.ListN.{length-map}
 use Rattle.tables.specs.Kept.{Keeps}
 use Rattle.tables.proofs.Keeping.{root_low}
 use Rattle.blossoms.specs.Steps.{Marks}
 use Rattle.blossoms.proofs.Filling.{placed_same, getD_placed}
 
-pub roots_long : (t : Tables) → Keeps t → length t.roots ≡ 200
-roots_long t k = ∥∥₁_elim k (ℕ_set _ _) (λ h. h.kept.sized.roots)
+pub places_long : (t : Tables) → Keeps t → length t.blossoms ≡ 100
+places_long t k = ∥∥₁_elim k (ℕ_set _ _) (λ h. sym (length-map t.blossoms blossom_of) ∙ h.kept.sized.blossoms)
 
 module _ (t : Tables) (k : Keeps t) (ps : List ℕ) (marks : List Bool) (marked : Marks marks ps) where
   lies : (v : ℕ) → (ltb v t.members && get_or marks (root_at (state t) v) false) ≡ lies_in (state t) ps v

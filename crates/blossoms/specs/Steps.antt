@@ -1,10 +1,10 @@
 -- The checks of shrink and dissolve, and what they find. Assumes nothing.
-use Rattle.std.specs.Prelude.{◌≡◌, ℕ, ◌<◌, Bool, false, List, Some, None, Ok, Err, Result, slice_index_or}
+use Rattle.std.specs.Prelude.{◌≡◌, ℕ, ◌-◌, ◌<◌, Bool, false, cond, ◌&&◌, List, Some, None, Ok, Err, Result, ◌==◌, nat_lt, slice_index_or}
 use Rattle.faults.specs.declared.layers.BoardFault.{BoardFault}
-use Rattle.matching.specs.State.{State, blossom_at}
+use Rattle.matching.specs.State.{State, root_at, blossom_at}
 use Rattle.steps.specs.Adjust.{among}
 use Rattle.rings.specs.Shrink.{shrink_fault, passed, ring_of, shrunk}
-use Rattle.rings.specs.Dissolve.{dissolve_fault, dissolved}
+use Rattle.rings.specs.Dissolve.{dissolve_fault, dissolved, holder}
 use Rattle.tables.specs.States.{blossom_of}
 use Rattle.blossoms.specs.declared.Ring.{Ring}
 
@@ -28,13 +28,17 @@ pub record Made (s : State) (r : ℕ) (es : List ℕ) (x : Ring) : Type 0 where
   pub none : shrink_fault s r es ≡ None
   pub low : x.place < 100
   pub free : (blossom_at s x.place).used ≡ false
-  pub blossom : blossom_of x.blossom ≡ ring_of s (passed s r es) es
+  pub blossom : blossom_of (Some x.blossom) ≡ ring_of s (passed s r es) es
   pub roots : x.roots ≡ (shrunk s r es x.place).roots
 
 -- the first fault, or the new blossom
 abbrev pub Shrinks : State → ℕ → List ℕ → Result Ring BoardFault → Type 0
 Shrinks s r es (Err f) = shrink_fault s r es ≡ Some f
 Shrinks s r es (Ok x) = Made s r es x
+
+-- the root of the member v, once the parts of the blossom p are roots
+abbrev pub parted : State → ℕ → ℕ → ℕ
+parted s p v = cond (nat_lt v s.members && root_at s v == p) (holder s (blossom_at s (p - 200)).parts v) (root_at s v)
 
 -- nothing stands against the dissolve, and these are the roots after it
 pub record Split (s : State) (p : ℕ) (rs : List ℕ) : Type 0 where

@@ -1,11 +1,15 @@
 // When a dissolve is a step, and the roots after it.
-ghost use Rattle.std.specs.Prelude.{◌≡◌, ◌<◌, ◌≤◌, take};
+ghost use Rattle.std.specs.Prelude.{◌≡◌, ◌<◌, ◌≤◌, find};
 ghost use Rattle.faults.specs.Checks.{judged};
 ghost use Rattle.matching.specs.State.{node_holds};
 ghost use Rattle.rings.specs.Dissolve.{dissolve_fault, dissolved, holder};
-ghost use Rattle.tables.specs.States.{state};
+ghost use Rattle.tables.specs.States.{parts_in, state};
+ghost use Rattle.blossoms.specs.Steps.{parted};
 
 use faults::layers::BoardFault;
+use std::array;
+use tables::node::Node;
+use tables::tables::Link;
 use tables::view::View;
 use walks::is_root;
 
@@ -15,55 +19,52 @@ pub(crate) fn check_dissolve(view: View<'_>, node: usize) -> Result<(), BoardFau
     if view.tables.begun.is_none() {
         return Err(BoardFault::NotBegun);
     }
-    if node < 200 || !is_root(view, node) {
+    let Node::Blossom(at) = Node::from(node) else {
+        return Err(BoardFault::NotRoot(node));
+    };
+    if !is_root(view, node) {
         return Err(BoardFault::NotRoot(node));
     }
-    if view.tables.blossoms[node - 200].price != 0 {
+    if view.blossom(at).is_some_and(|blossom| blossom.price != 0) {
         return Err(BoardFault::Priced(node));
     }
     Ok(())
 }
 
-// Whether a node holds a member.
-fn node_holds(view: View<'_>, node: usize, member: usize) -> bool
-    requires { member < 200 }
-    ensures { result ≡ node_holds (state view.entry.tables.now) node member }
+fn first_holding(view: View<'_>, ring: &[Link], member: usize) -> Option<u16>
+    ensures { result ≡ find (λ part. node_holds (state view.entry.tables.now) part member) (parts_in ring.now) }
 {
-    if node < 200 {
-        return node == member;
-    }
-    if node >= 300 {
-        return false;
-    }
-    let blossom = &view.tables.blossoms[node - 200];
-    blossom.used && blossom.holds[member]
+    ring.iter()
+        .map(|link| link.part)
+        .find(|part| view.holds(*part as usize, member))
 }
 
-// The first of so many parts that holds the member.
-fn holder(view: View<'_>, parts: &[u16; 200], len: usize, member: usize) -> u16
+// The first part of a ring that holds the member.
+fn holder(view: View<'_>, ring: &[Link], member: usize) -> u16
     requires { member < 200 }
-    ensures { result ≡ holder (state view.entry.tables.now) (take len parts.now) member }
+    ensures { result ≡ holder (state view.entry.tables.now) (parts_in ring.now) member }
 {
-    for (j, part) in parts.iter().enumerate() {
-        if j < len && node_holds(view, *part as usize, member) {
-            return *part;
-        }
+    first_holding(view, ring, member).unwrap_or(member as u16)
+}
+
+// The root of a member, once the parts of a blossom are roots.
+fn root_after(view: View<'_>, node: usize, member: usize) -> u16
+    requires blossom { 200 ≤ node }
+    requires low { member < 200 }
+    ensures { result ≡ parted (state view.entry.tables.now) node member }
+{
+    let root = view.tables.roots[member];
+    if member < view.tables.members && root as usize == node {
+        holder(view, view.ring(node - 200), member)
+    } else {
+        root
     }
-    member as u16
 }
 
 // The root of each member, once the blossom's parts are roots.
 pub(crate) fn roots_of_parts(view: View<'_>, node: usize) -> [u16; 200]
-    requires from { 200 ≤ node }
-    requires upto { node < 300 }
+    requires { 200 ≤ node }
     ensures { result ≡ (dissolved (state view.entry.tables.now) node).roots }
 {
-    let blossom = &view.tables.blossoms[node - 200];
-    let mut roots = view.tables.roots;
-    for v in 0..view.tables.members {
-        if roots[v] as usize == node {
-            roots[v] = holder(view, &blossom.parts, blossom.len, v);
-        }
-    }
-    roots
+    array::from_fn(|member| root_after(view, node, member))
 }

@@ -5,7 +5,7 @@ ghost use Rattle.tables.specs.States.{state};
 ghost use Rattle.blossoms.specs.Steps.{Shrinks, Dissolves};
 
 use crate::dissolving::{check_dissolve, roots_of_parts};
-use crate::shrinking::{free_place, members_of, padded, parts_of, roots_under};
+use crate::shrinking::{free_place, links_of, members_of, roots_under};
 use faults::layers::BoardFault;
 use tables::tables::Blossom;
 use tables::view::View;
@@ -18,6 +18,7 @@ mod shrinking;
 pub struct Ring {
     pub place: usize,
     pub blossom: Blossom,
+    // The whole column, as the board writes it.
     pub roots: [u16; 200],
 }
 
@@ -26,15 +27,13 @@ pub fn ring_of(view: View<'_>, root: usize, offers: &[u16]) -> Result<Ring, Boar
     ensures { Shrinks (state view.entry.tables.now) root offers.now result }
 {
     let place = free_place(view, root, offers)?;
-    let (parts, marks) = parts_of(view, root, offers);
+    let (links, marks) = links_of(view, root, offers);
     let holds = members_of(view, &marks);
     let roots = roots_under(view, &holds, 200 + place as u16);
     let blossom = Blossom {
-        used: true,
         price: 0,
         len: offers.len(),
-        parts,
-        joins: padded(offers),
+        links,
         holds,
     };
     Ok(Ring {

@@ -1,9 +1,9 @@
 -- The facts that every board keeps, one by one, and that making and beginning a board keep them. Assumes nothing.
-use Rattle.std.proofs.Common.{◌≡◌, ℕ, ◌*◌, ◌<◌, ◌≤◌, Bool, true, false, cond, ltb, List, map, length, get_or, replicate, None, Ok, Err, Result, sym, refl, ap, ◌∙◌, subst, ⊎_elim, zero-mul, arith}
+use Rattle.std.proofs.Common.{◌≡◌, ℕ, ◌*◌, ◌<◌, ◌≤◌, Bool, true, false, cond, ltb, List, map, length, get_or, replicate, None, Option, Ok, Err, Result, sym, refl, ap, ◌∙◌, subst, ⊎_elim, zero-mul, arith}
 use mathlib.Core.Logic.{∥∥₁_map}
 use lib.ListN.{length-map}
 use Rattle.std.proofs.lemmas.List.{get_or-replicate, get_or_past, get_or-map, length-replicate}
-use Rattle.std.proofs.lemmas.Bool.{cases_lt, ltb-true}
+use Rattle.std.proofs.lemmas.Bool.{both_ways, cases_lt, ltb-true}
 use Rattle.faults.specs.declared.layers.BoardFault.{BoardFault}
 use Rattle.faults.specs.declared.layers.BoardFault.TheVariants.{NoMember}
 use Rattle.matching.specs.declared.row.Row.{Row}
@@ -12,31 +12,26 @@ use Rattle.matching.specs.Lawful.{Lawful}
 use Rattle.matching.specs.State.{no_blossom}
 use Rattle.matching.specs.Kept.{Begun}
 use Rattle.matching.specs.Theorems.{AtStart}
-use Rattle.matching.proofs.Finite.{none_some, some_is}
+use Rattle.matching.proofs.Finite.{none_some, some_is, getD_filler}
 use Rattle.matching.proofs.Nodes.{holds_itself}
 use Rattle.matching.proofs.Sums.{length_below, getD_below}
 use Rattle.matching.proofs.Start.{kept_at_start}
+use Rattle.tables.specs.declared.tables.Blossom.{Blossom}
 use Rattle.tables.specs.declared.tables.Tables.{Tables}
-use Rattle.board.specs.Fresh.{unused, fresh}
+use Rattle.board.specs.Fresh.{fresh}
 use Rattle.tables.specs.States.{offered, blossom_of, state}
 use Rattle.tables.specs.Kept.{Held, Keeps}
 use Rattle.board.specs.Begins.{begun_with}
 use Rattle.board.specs.Questions.{of_member}
 use Rattle.board.proofs.Padding.{take_padded}
 
-getD_replicated : {X : Type 0} (n i : ℕ) (x : X) → get_or (replicate n x) i x ≡ x
-getD_replicated n i x = ⊎_elim (λ (l : i < n). get_or-replicate n i x x l) (λ (l : n ≤ i). get_or_past (replicate n x) i x (omega (arith, length-replicate n x))) (cases_lt i n)
-
 -- no blossom of a new board is in use
-none_used : (i : ℕ) → (get_or (map blossom_of (replicate 100 unused)) i no_blossom).used ≡ false
+none_used : (i : ℕ) → (get_or (map blossom_of (replicate 100 None)) i no_blossom).used ≡ false
 none_used i =
     ⊎_elim
-    (λ (l : i < 100). ap (λ b. b.used) (get_or-map blossom_of (replicate 100 unused) i unused no_blossom (omega (arith, length-replicate 100 unused)) ∙ ap blossom_of (get_or-replicate 100 i unused unused l)))
-    (λ (l : 100 ≤ i). ap (λ b. b.used) (get_or_past (map blossom_of (replicate 100 unused)) i no_blossom (omega (arith, length-map (replicate 100 unused) blossom_of, length-replicate 100 unused))))
+    (λ (l : i < 100). ap (λ b. b.used) (get_or-map blossom_of (replicate 100 None) i None no_blossom (omega (arith, length-replicate {A = Option Blossom} 100 None)) ∙ ap blossom_of (get_or-replicate 100 i None None l)))
+    (λ (l : 100 ≤ i). ap (λ b. b.used) (get_or_past (map blossom_of (replicate 100 None)) i no_blossom (omega (arith, length-map (replicate 100 None) blossom_of, length-replicate {A = Option Blossom} 100 None))))
     (cases_lt i 100)
-
-true_false : {b : Bool} → b ≡ false → b ≡ true → ⊥
-true_false p q = let z : ◌≡◌ {A = ℕ} 0 1 = cc in omega arith
 
 pub fresh_keeps : (n : ℕ) (rs : List Row) (top : ℕ) (carry : ℕ → ℕ) → Lawful n rs top carry → Keeps (fresh n rs top)
 fresh_keeps n rs top carry law =
@@ -49,15 +44,15 @@ fresh_keeps n rs top carry law =
         prices = refl;
         mates = refl;
         roots = length_below 200;
-        blossoms = length-map (replicate 100 unused) blossom_of ∙ length-replicate 100 unused;
+        blossoms = length-map (replicate 100 None) blossom_of ∙ length-replicate {A = Option Blossom} 100 None;
       };
       rows = subst (AllSound n top) (sym same) law.sound;
       begun = λ k e. absurd (none_some e);
       floor = sym (zero-mul top);
-      prices = λ v l. getD_replicated 200 v 0;
-      mates = λ v l. getD_replicated 200 v None;
+      prices = λ v l. getD_filler 200 v 0;
+      mates = λ v l. getD_filler 200 v None;
       roots = λ v l. getD_below 200 v 0 (omega (arith, law.few));
-      blossoms = λ i u. true_false (none_used i) u;
+      blossoms = λ i u. both_ways _ (none_used i) u;
     } in
     ∣ record { short = law.short; full = ap length same; kept = kept_at_start (state (fresh n rs top)) start } ∣₁
 

@@ -7,4 +7,3 @@ pub mod Loose
 pub mod Slacks
 pub mod Stepping
 pub mod Turning
-pub mod Asking

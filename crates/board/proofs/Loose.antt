@@ -1,20 +1,29 @@
--- The members that are loose, counted one by one. Assumes nothing.
-use Rattle.std.proofs.Common.{◌≡◌, ℕ, ◌+◌, true, false, cond, List, Option, ap, ◌∙◌, add-one, arith}
-use Rattle.matching.specs.Mates.{mate, is_none, loose}
+-- The members that are loose, counted. Assumes nothing.
+use Rattle.std.proofs.Common.{◌≡◌, ℕ, zero, suc, ◌+◌, ◌≤◌, Bool, true, false, cond, List, length, get_or, take, is_none, count_by, None, Option, sym, refl, ap, ◌∙◌, add-one, arith}
+use Rattle.std.proofs.lemmas.List.Sums.{count_by_more_no, count_by_more_yes}
+use Rattle.matching.specs.Mates.{mate, loose}
+use Rattle.matching.specs.Mates.{is_none as without}
 use Rattle.matching.proofs.Sums.{total_below_none, total_below_more}
+use Rattle.augments.proofs.Loosing.{same_test}
 
 module _ (ms : List (Option ℕ)) where
   abbrev free : ℕ → ℕ
-  free v = cond (is_none (mate ms v)) 1 0
-
-  pub loose_none : loose 0 ms ≡ 0
-  loose_none = total_below_none free
+  free v = cond (without (mate ms v)) 1 0
 
   loose_more : (v : ℕ) → loose (v + 1) ms ≡ loose v ms + free v
   loose_more v = ap (λ n. loose n ms) (add-one v) ∙ total_below_more free v
 
-  pub loose_yes : (v count : ℕ) → count ≡ loose v ms → is_none (mate ms v) ≡ true → count + 1 ≡ loose (v + 1) ms
-  loose_yes v count i h = omega (arith, i, loose_more v, ap {B = ℕ} (λ b. cond b 1 0) h)
-
-  pub loose_no : (v count : ℕ) → count ≡ loose v ms → is_none (mate ms v) ≡ false → count ≡ loose (v + 1) ms
-  loose_no v count i h = omega (arith, i, loose_more v, ap {B = ℕ} (λ b. cond b 1 0) h)
+  -- the first n members, counted along the list of mates
+  pub loose_counted : (n : ℕ) → n ≤ length ms → count_by is_none (take n ms) ≡ loose n ms
+  loose_counted zero l = sym (total_below_none free)
+  loose_counted (suc n) l = by (loose_counted n (omega arith)) (is_none (get_or ms n None)) refl
+    where
+      by : count_by is_none (take n ms) ≡ loose n ms → (b : Bool) → is_none (get_or ms n None) ≡ b → count_by is_none (take (suc n) ms) ≡ loose (suc n) ms
+      by before true h =
+          let one : free n ≡ 1 = ap {B = ℕ} (λ b. cond b 1 0) (sym (same_test (mate ms n)) ∙ h) in
+          let more = ap (λ k. count_by is_none (take k ms)) (add-one n) in
+          omega (arith, before, one, loose_more n, count_by_more_yes is_none ms n None (omega arith) h, more, ap (λ k. loose k ms) (add-one n))
+      by before false h =
+          let none : free n ≡ 0 = ap {B = ℕ} (λ b. cond b 1 0) (sym (same_test (mate ms n)) ∙ h) in
+          let more = ap (λ k. count_by is_none (take k ms)) (add-one n) in
+          omega (arith, before, none, loose_more n, count_by_more_no is_none ms n None (omega arith) h, more, ap (λ k. loose k ms) (add-one n))

@@ -1,8 +1,8 @@
 -- Moving the prices, one member and one blossom after the other. Assumes nothing.
-use Rattle.std.proofs.Common.{◌≡◌, ℕ, ◌+◌, ◌-◌, ◌<◌, ◌≤◌, cond, eqb, ltb, List, [], ◌∷◌, map, length, get_or, set, sym, refl, ap, ◌∙◌, subst, ⊎_elim, arith, length-set}
+use Rattle.std.proofs.Common.{◌≡◌, ℕ, ◌+◌, ◌-◌, ◌<◌, ◌≤◌, cond, ltb, List, [], ◌∷◌, map, length, get_or, take, drop, set, None, Some, Option, sym, refl, ap, ◌∙◌, subst, ⊎_elim, arith, length-set}
 use lib.ListN.{length-map}
-use Rattle.std.proofs.lemmas.List.{ext_get_or, get_or-map, get_or-set_same, get_or-set_other, get_or_past, set-get_or}
-use Rattle.std.proofs.lemmas.Bool.{cond_both, cases_eq, cases_lt, lt-ltb, le-ltb}
+use Rattle.std.proofs.lemmas.List.{length-drop, length-take-le, get_or-drop, get_or-take, ext_get_or, get_or-map, get_or-set_same, get_or-set_other, get_or_past, set-get_or}
+use Rattle.std.proofs.lemmas.Bool.{cases_eq, cases_lt, lt-ltb, le-ltb}
 use Rattle.std.proofs.lemmas.Bool.Decides.{nat_tests}
 use Rattle.std.specs.List.{AllByRecursion as All}
 use Rattle.matching.specs.Sums.{below}
@@ -11,10 +11,11 @@ use Rattle.matching.proofs.Sums.{length_below, getD_below, all_below}
 use Rattle.steps.specs.Adjust.{label_at, root_label, moved, moved_blossom, repriced, adjusted}
 use Rattle.tables.specs.declared.tables.Blossom.{Blossom}
 use Rattle.tables.specs.declared.tables.Tables.{Tables}
-use Rattle.tables.specs.States.{offered, blossom_of, state, no_place, place}
+use Rattle.tables.specs.States.{offered, blossom_of, state, place}
 use Rattle.adjusts.specs.Labels.{RootLabels}
-use Rattle.tables.specs.Prices.{at_price, with_prices, place_moved}
-use Rattle.board.specs.Moves.{moved_prices, members_moved, moved_blossoms, blossoms_moved, all_moved}
+use Rattle.tables.specs.Prices.{with_prices, place_moved}
+use Rattle.tables.proofs.Keeping.{blossom_there}
+use Rattle.board.specs.Moves.{moved_place, moved_prices, members_moved, moved_blossoms, blossoms_moved, all_moved}
 
 -- a list of n places whose first i are by f, and the others as in xs, and what comes of it at the end
 module _ {X : Type 0} (d : X) (n : ℕ) (f : ℕ → X) (xs : List X) where
@@ -65,13 +66,13 @@ pub record MembersSofar (t : Tables) (ls : List ℕ) (v : ℕ) (t' : Tables) : T
   pub others : t' ≡ with_prices t t.floor t'.prices t.blossoms
   pub prices : Partly 0 200 (new_price t ls) t.prices v t'.prices
 
-abbrev pub new_blossom : Tables → List ℕ → ℕ → Blossom
-new_blossom t common i = at_price (moved_blossom (get_or common (200 + i) 0) (place t i).price) (place t i)
+abbrev pub new_blossom : Tables → List ℕ → ℕ → Option Blossom
+new_blossom t common i = moved_place (get_or common (200 + i) 0) (place t i)
 
 -- the blossoms below place i are moved, and nothing else
 pub record BlossomsSofar (t : Tables) (common : List ℕ) (i : ℕ) (t' : Tables) : Type 0 where
   pub others : t' ≡ with_prices t t.floor t.prices t'.blossoms
-  pub blossoms : Partly no_place 100 (new_blossom t common) t.blossoms i t'.blossoms
+  pub blossoms : Partly None 100 (new_blossom t common) t.blossoms i t'.blossoms
 
 past_label : (ls : List ℕ) (v y : ℕ) → length ls ≤ v → moved (label_at ls v) y ≡ y
 past_label ls v y l = ap (λ k. moved k y) (get_or_past ls v 0 l)
@@ -83,43 +84,48 @@ members_done t ls v t' l h =
 
 module _ (t : Tables) (common : List ℕ) where
   pub blossoms_none : length t.blossoms ≡ 100 → BlossomsSofar t common 0 t
-  blossoms_none l = record { others = refl; blossoms = partly_none no_place 100 (new_blossom t common) t.blossoms l }
+  blossoms_none l = record { others = refl; blossoms = partly_none None 100 (new_blossom t common) t.blossoms l }
 
-  pub blossoms_more : (i : ℕ) (t' t'' : Tables) → i < 100 → t'' ≡ place_moved t' i (moved_blossom (get_or common (200 + i) 0) (place t' i).price) → BlossomsSofar t common i t' → BlossomsSofar t common (i + 1) t''
+  pub blossoms_more : (i : ℕ) (t' t'' : Tables) → i < 100 → t'' ≡ place_moved t' i (moved_blossom (get_or common (200 + i) 0) (blossom_of (place t' i)).price) → BlossomsSofar t common i t' → BlossomsSofar t common (i + 1) t''
   blossoms_more i t' t'' l made h =
-      let r = moved_blossom (get_or common (200 + i) 0) (place t' i).price in
-      let here : place t' i ≡ place t i = partly_here no_place 100 (new_blossom t common) t.blossoms i t'.blossoms l h.blossoms in
-      let new = set t'.blossoms i (at_price r (place t' i)) in
-      let is : at_price r (place t' i) ≡ new_blossom t common i = ap (λ b. at_price (moved_blossom (get_or common (200 + i) 0) b.price) b) here in
+      let here : place t' i ≡ place t i = partly_here None 100 (new_blossom t common) t.blossoms i t'.blossoms l h.blossoms in
+      let new = set t'.blossoms i (moved_place (get_or common (200 + i) 0) (place t' i)) in
+      let is : moved_place (get_or common (200 + i) 0) (place t' i) ≡ new_blossom t common i = ap (moved_place (get_or common (200 + i) 0)) here in
       let held : new ≡ t''.blossoms = ap (λ u. u.blossoms) (sym made) in
       record {
         others = made ∙ ap (λ u. with_prices u u.floor u.prices new) h.others ∙ ap (with_prices t t.floor t.prices) held;
-        blossoms = subst (Partly no_place 100 (new_blossom t common) t.blossoms (i + 1)) held (partly_more no_place 100 (new_blossom t common) t.blossoms i t'.blossoms (at_price r (place t' i)) l is h.blossoms);
+        blossoms = subst (Partly None 100 (new_blossom t common) t.blossoms (i + 1)) held (partly_more None 100 (new_blossom t common) t.blossoms i t'.blossoms (moved_place (get_or common (200 + i) 0) (place t' i)) l is h.blossoms);
       }
 
   pub blossoms_done : (i : ℕ) (t' : Tables) → 100 ≤ i → BlossomsSofar t common i t' → t' ≡ blossoms_moved t common
   blossoms_done i t' l h =
       h.others
-      ∙ ap (with_prices t t.floor t.prices) (partly_all no_place 100 (new_blossom t common) t.blossoms i t'.blossoms h.blossoms (λ u less out. absurd (omega arith)))
+      ∙ ap (with_prices t t.floor t.prices) (partly_all None 100 (new_blossom t common) t.blossoms i t'.blossoms h.blossoms (λ u less out. absurd (omega arith)))
 
--- without a label nothing moves
-pub unmoved : (t : Tables) (i l : ℕ) → l ≡ 0 → t ≡ place_moved t i (moved_blossom l (place t i).price)
+-- without a label nothing moves, nor where there is no blossom
+same_price : (o : Option Blossom) → moved_place 0 o ≡ o
+same_price None = refl
+same_price (Some b) = refl
+
+put_back : (t : Tables) (i : ℕ) (o : Option Blossom) → o ≡ place t i → t ≡ with_prices t t.floor t.prices (set t.blossoms i o)
+put_back t i o e = ap (with_prices t t.floor t.prices) (sym (ap (set t.blossoms i) e ∙ set-get_or t.blossoms i None))
+
+pub unmoved : (t : Tables) (i l : ℕ) → l ≡ 0 → t ≡ place_moved t i (moved_blossom l (blossom_of (place t i)).price)
 unmoved t i l e =
-    ap (with_prices t t.floor t.prices) (sym (set-get_or t.blossoms i no_place))
-    ∙ ap (λ k. place_moved t i (moved_blossom k (place t i).price)) (sym e)
-
-pub blossom_low : (l z : ℕ) → z ≤ 128000 → moved_blossom l z ≤ 128002
-blossom_low l z h = cond_both (eqb l 1) (z + 2) (cond (eqb l 2) (z - 2) z) (λ y. y ≤ 128002) (λ _. omega arith) (λ _. cond_both (eqb l 2) (z - 2) z (λ y. y ≤ 128002) (λ _. omega arith) (λ _. omega arith))
+    put_back t i (moved_place 0 (place t i)) (same_price (place t i))
+    ∙ ap (λ k. place_moved t i (moved_blossom k (blossom_of (place t i)).price)) (sym e)
 
 -- read as a state, the tables after the step are the adjusted state
-module _ (t : Tables) (ls common : List ℕ) (full : length t.blossoms ≡ 100) (roots : RootLabels (state t) ls common) where
-  at_place : (i : ℕ) → i < 100 → blossom_at (state t) i ≡ blossom_of (place t i)
-  at_place i l = get_or-map blossom_of t.blossoms i no_place no_blossom (omega (arith, full))
+module _ (t : Tables) (ls common : List ℕ) (full : length t.blossoms ≡ 100) (roots : RootLabels (state t) ls common) (idle : (i : ℕ) → i < 100 → place t i ≡ None → root_label (state t) ls (200 + i) ≡ 0) where
+  place_repriced : (l : ℕ) (o : Option Blossom) → (o ≡ None → l ≡ 0) → blossom_of (moved_place l o) ≡ repriced l (blossom_of o)
+  place_repriced l None e = ap (λ k. repriced k no_blossom) (sym (e refl))
+  place_repriced l (Some b) e = refl
 
   each_repriced : (i : ℕ) → i < 100 → blossom_of (new_blossom t common i) ≡ repriced (root_label (state t) ls (200 + i)) (blossom_at (state t) i)
   each_repriced i l =
-      ap (λ k. repriced k (blossom_of (place t i))) (roots (200 + i) (omega arith))
-      ∙ ap (repriced (root_label (state t) ls (200 + i))) (sym (at_place i l))
+      ap (λ k. blossom_of (moved_place k (place t i))) (roots (200 + i) (omega arith))
+      ∙ place_repriced (root_label (state t) ls (200 + i)) (place t i) (idle i l)
+      ∙ ap (repriced (root_label (state t) ls (200 + i))) (sym (blossom_there t i))
 
   all_repriced : map blossom_of (moved_blossoms t common) ≡ map (λ i. repriced (root_label (state t) ls (200 + i)) (blossom_at (state t) i)) (below 100)
   all_repriced = same_map (below 100) (all_below (λ i. blossom_of (new_blossom t common i) ≡ repriced (root_label (state t) ls (200 + i)) (blossom_at (state t) i)) 100 each_repriced)
@@ -141,3 +147,11 @@ module _ (t : Tables) (ls common : List ℕ) (full : length t.blossoms ≡ 100) 
     roots = t.roots;
     blossoms = bs;
   }) all_repriced
+
+-- the labels of the blossoms' places stand past those of the members
+module _ (cs : List ℕ) (long : length cs ≡ 300) where
+  pub part_long : length (take 100 (drop 200 cs)) ≡ 100
+  part_long = length-take-le 100 (drop 200 cs) (omega (arith, length-drop 200 cs, long))
+
+  pub part_at : (i : ℕ) → i < 100 → get_or (take 100 (drop 200 cs)) i 0 ≡ get_or cs (200 + i) 0
+  part_at i l = get_or-take 100 (drop 200 cs) i 0 l ∙ get_or-drop 200 cs i 0

@@ -6,23 +6,22 @@ use Rattle.std.proofs.lemmas.List.{map-set}
 use Rattle.std.proofs.lemmas.Bool.{and_parts, both_ways, cases_lt}
 use Rattle.faults.specs.Checks.{unless}
 use Rattle.faults.specs.declared.layers.BoardFault.TheVariants.{NotBegun, NotRoot}
-use Rattle.matching.specs.State.{State, blossom_at}
+use Rattle.matching.specs.State.{State, no_blossom, blossom_at}
 use Rattle.matching.specs.Kept.{Kept}
 use Rattle.steps.proofs.Searches.{or_else_none, unless_none}
 use Rattle.paths.specs.Walk.{is_root}
 use Rattle.paths.specs.Augment.{augment_fault, Exchanged, Augmented}
 use Rattle.paths.proofs.Keeps.{augment_keeps}
 use Rattle.rings.specs.Shrink.{shrink_fault, passed, ring_of, with_blossoms, shrunk}
-use Rattle.rings.specs.Dissolve.{dissolve_fault, freed, dissolved}
+use Rattle.rings.specs.Dissolve.{dissolve_fault, dissolved}
 use Rattle.rings.proofs.Shrinks.{shrink_keeps}
 use Rattle.rings.proofs.Dissolves.{dissolve_keeps}
 use Rattle.tables.specs.declared.tables.Blossom.{Blossom}
 use Rattle.tables.specs.declared.tables.Tables.{Tables}
-use Rattle.tables.specs.States.{blossom_of, state, place}
+use Rattle.tables.specs.States.{blossom_of, state}
 use Rattle.tables.specs.Kept.{Keeps}
-use Rattle.tables.proofs.Keeping.{blossom_there}
 use Rattle.walks.proofs.Telling.{no_number}
-use Rattle.board.specs.Steps.{mated_anew, ringed_anew, free_place}
+use Rattle.board.specs.Steps.{mated_anew, ringed_anew}
 
 pub augmented_is : (t : Tables) (r : ℕ) (es : List ℕ) (m : List (Option ℕ)) → Exchanged (state t) r es m → Augmented (state t) r es (state (mated_anew t m))
 augmented_is t r es m h = record { mates = h; rest = refl }
@@ -35,13 +34,13 @@ augment_held t r es m k none h = ∥∥₁_map k (λ held. record {
 })
 
 -- the state of tables with other roots and another blossom
-ringed_state : (t : Tables) (roots : List ℕ) (i : ℕ) (b : Blossom) → state (ringed_anew t roots i b) ≡ with_blossoms (state t) roots (set (state t).blossoms i (blossom_of b))
+ringed_state : (t : Tables) (roots : List ℕ) (i : ℕ) (b : Option Blossom) → state (ringed_anew t roots i b) ≡ with_blossoms (state t) roots (set (state t).blossoms i (blossom_of b))
 ringed_state t roots i b = ap (with_blossoms (state t) roots) (map-set blossom_of t.blossoms i b)
 
-ringed_held : (t : Tables) (roots : List ℕ) (i : ℕ) (b : Blossom) (s : State) → state (ringed_anew t roots i b) ≡ s → (Kept (state t) → Kept s) → Keeps t → Keeps (ringed_anew t roots i b)
+ringed_held : (t : Tables) (roots : List ℕ) (i : ℕ) (b : Option Blossom) (s : State) → state (ringed_anew t roots i b) ≡ s → (Kept (state t) → Kept s) → Keeps t → Keeps (ringed_anew t roots i b)
 ringed_held t roots i b s e keeps k = ∥∥₁_map k (λ held. record { short = held.short; full = held.full; kept = subst Kept (sym e) (keeps held.kept) })
 
-module _ (t : Tables) (r : ℕ) (es : List ℕ) (i : ℕ) (b : Blossom) (roots : List ℕ) (is : blossom_of b ≡ ring_of (state t) (passed (state t) r es) es) (to : roots ≡ (shrunk (state t) r es i).roots) where
+module _ (t : Tables) (r : ℕ) (es : List ℕ) (i : ℕ) (b : Option Blossom) (roots : List ℕ) (is : blossom_of b ≡ ring_of (state t) (passed (state t) r es) es) (to : roots ≡ (shrunk (state t) r es i).roots) where
   pub shrunk_is : state (ringed_anew t roots i b) ≡ shrunk (state t) r es i
   shrunk_is = ringed_state t roots i b ∙ ap (λ x. with_blossoms (state t) roots (set (state t).blossoms i x)) is ∙ ap (λ x. with_blossoms (state t) x (set (state t).blossoms i (ring_of (state t) (passed (state t) r es) es))) to
 
@@ -49,14 +48,11 @@ module _ (t : Tables) (r : ℕ) (es : List ℕ) (i : ℕ) (b : Blossom) (roots :
   shrink_held k none low free = ringed_held t roots i b (shrunk (state t) r es i) shrunk_is (λ kept. shrink_keeps (state t) r es i kept none low free) k
 
 module _ (t : Tables) (p : ℕ) (roots : List ℕ) (to : roots ≡ (dissolved (state t) p).roots) where
-  pub dissolved_is : state (ringed_anew t roots (p - 200) (free_place (place t (p - 200)))) ≡ dissolved (state t) p
-  dissolved_is =
-      ringed_state t roots (p - 200) (free_place (place t (p - 200)))
-      ∙ ap (λ x. with_blossoms (state t) roots (set (state t).blossoms (p - 200) (freed x))) (sym (blossom_there t (p - 200)))
-      ∙ ap (λ x. with_blossoms (state t) x (set (state t).blossoms (p - 200) (freed (blossom_at (state t) (p - 200))))) to
+  pub dissolved_is : state (ringed_anew t roots (p - 200) None) ≡ dissolved (state t) p
+  dissolved_is = ringed_state t roots (p - 200) None ∙ ap (λ x. with_blossoms (state t) x (set (state t).blossoms (p - 200) no_blossom)) to
 
-  pub dissolve_held : Keeps t → dissolve_fault (state t) p ≡ None → Keeps (ringed_anew t roots (p - 200) (free_place (place t (p - 200))))
-  dissolve_held k none = ringed_held t roots (p - 200) (free_place (place t (p - 200))) (dissolved (state t) p) dissolved_is (λ kept. dissolve_keeps (state t) p kept none) k
+  pub dissolve_held : Keeps t → dissolve_fault (state t) p ≡ None → Keeps (ringed_anew t roots (p - 200) None)
+  dissolve_held k none = ringed_held t roots (p - 200) None (dissolved (state t) p) dissolved_is (λ kept. dissolve_keeps (state t) p kept none) k
 
   -- the node is the number of a place
   module _ (none : dissolve_fault (state t) p ≡ None) where

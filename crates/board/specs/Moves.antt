@@ -1,10 +1,11 @@
 -- What the write half of adjust leaves in the tables. Assumes nothing.
-use Rattle.std.specs.Prelude.{ℕ, ◌+◌, ◌-◌, ◌<◌, ◌≤◌, ◌≢◌, List, map, slice_index}
+use Rattle.std.specs.Prelude.{ℕ, ◌+◌, ◌-◌, ◌<◌, ◌≤◌, ◌≢◌, List, map, Option, slice_index}
+use Rattle.std.specs.Option.{option_map}
 use Rattle.matching.specs.Sums.{below}
 use Rattle.steps.specs.Adjust.{label_at, moved, moved_blossom}
 use Rattle.tables.specs.declared.tables.Blossom.{Blossom}
 use Rattle.tables.specs.declared.tables.Tables.{Tables}
-use Rattle.tables.specs.States.{place}
+use Rattle.tables.specs.States.{blossom_of, place}
 use Rattle.tables.specs.Prices.{at_price, with_prices}
 
 -- the prices of the first n members have room to rise
@@ -13,7 +14,7 @@ Low t n = (v : ℕ) → v < n → slice_index t.prices v ≤ 128000
 
 -- so has that of each blossom whose root has a label
 abbrev pub LowBlossoms : Tables → List ℕ → Type 0
-LowBlossoms t common = (i : ℕ) → i < 100 → slice_index common (200 + i) ≢ 0 → (place t i).price ≤ 128000
+LowBlossoms t common = (i : ℕ) → i < 100 → slice_index common (200 + i) ≢ 0 → (blossom_of (place t i)).price ≤ 128000
 
 abbrev pub moved_prices : Tables → List ℕ → List ℕ
 moved_prices t ls = map (λ v. moved (label_at ls v) (slice_index t.prices v)) (below 200)
@@ -21,8 +22,12 @@ moved_prices t ls = map (λ v. moved (label_at ls v) (slice_index t.prices v)) (
 abbrev pub members_moved : Tables → List ℕ → Tables
 members_moved t ls = with_prices t t.floor (moved_prices t ls) t.blossoms
 
-abbrev pub moved_blossoms : Tables → List ℕ → List Blossom
-moved_blossoms t common = map (λ i. at_price (moved_blossom (slice_index common (200 + i)) (place t i).price) (place t i)) (below 100)
+-- what is at a place, by the label of the root there
+abbrev pub moved_place : ℕ → Option Blossom → Option Blossom
+moved_place l b = option_map (at_price (moved_blossom l (blossom_of b).price)) b
+
+abbrev pub moved_blossoms : Tables → List ℕ → List (Option Blossom)
+moved_blossoms t common = map (λ i. moved_place (slice_index common (200 + i)) (place t i)) (below 100)
 
 abbrev pub blossoms_moved : Tables → List ℕ → Tables
 blossoms_moved t common = with_prices t t.floor t.prices (moved_blossoms t common)

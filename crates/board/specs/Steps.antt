@@ -39,8 +39,8 @@ mated_anew t m = record {
   blossoms = t.blossoms;
 }
 
--- the tables with other roots, and the blossom b at place i
-abbrev pub ringed_anew : Tables → List ℕ → ℕ → Blossom → Tables
+-- the tables with other roots, and the blossom b or none at place i
+abbrev pub ringed_anew : Tables → List ℕ → ℕ → Option Blossom → Tables
 ringed_anew t roots i b = record {
   members = t.members;
   offers = t.offers;
@@ -53,7 +53,3 @@ ringed_anew t roots i b = record {
   roots = roots;
   blossoms = slice_set t.blossoms i b;
 }
-
--- a blossom's place, free again
-abbrev pub free_place : Blossom → Blossom
-free_place b = record { used = false; price = b.price; len = b.len; parts = b.parts; joins = b.joins; holds = b.holds }

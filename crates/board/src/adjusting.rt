@@ -1,10 +1,11 @@
 // The write half of adjust, which moves every price by the labels and cannot fail.
 ghost use Rattle.std.specs.Prelude.{◌≡◌, ◌<◌, ◌≤◌, ◌≢◌, length};
 ghost use Rattle.steps.specs.Adjust.{moved, moved_blossom};
-ghost use Rattle.tables.specs.States.{place};
+ghost use Rattle.tables.specs.States.{blossom_of, place};
 ghost use Rattle.tables.specs.Prices.{place_moved};
 ghost use Rattle.board.specs.Moves.{Low, LowBlossoms, members_moved, blossoms_moved, all_moved};
 
+use steps::label::Label;
 use steps::{moved_blossom, moved_price};
 use tables::tables::Tables;
 
@@ -29,23 +30,25 @@ fn move_members(tables: &mut Tables, labels: &[u8])
 // Moves the price of one blossom by its root's label.
 fn move_blossom(tables: &mut Tables, at: usize, label: u8)
     requires there { at < 100 }
-    requires low { label ≢ 0 → (place tables.old at).price ≤ 128000 }
-    ensures { tables.new ≡ place_moved tables.old at (moved_blossom label (place tables.old at).price) }
+    requires low { label ≢ 0 → (blossom_of (place tables.old at)).price ≤ 128000 }
+    ensures { tables.new ≡ place_moved tables.old at (moved_blossom label (blossom_of (place tables.old at)).price) }
 {
-    if label != 0 {
-        let price = tables.blossoms[at].price;
-        tables.reprice(at, moved_blossom(label, price) as u32);
+    let Some(blossom) = tables.blossoms[at] else {
+        return;
+    };
+    if Label::try_from(label) != Ok(Label::Still) {
+        tables.reprice(at, moved_blossom(label, blossom.price) as u32);
     }
 }
 
-// The labels are those of the roots.
+// The labels are those of the roots, by their numbers.
 fn move_blossoms(tables: &mut Tables, common: &[u8; 300])
     requires full { length tables.old.blossoms ≡ 100 }
     requires low { LowBlossoms tables.old common.now }
     ensures { tables.new ≡ blossoms_moved tables.old common.now }
 {
-    for i in 0..100 {
-        move_blossom(tables, i, common[200 + i]);
+    for (at, label) in common[200..].iter().enumerate() {
+        move_blossom(tables, at, *label);
     }
 }
 

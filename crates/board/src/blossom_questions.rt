@@ -1,43 +1,32 @@
 // The questions on blossoms, read off the tables.
-ghost use Rattle.std.specs.Prelude.{◌≡◌, ℕ, ◌-◌, ◌<◌, Some};
-ghost use Rattle.tables.specs.States.{state};
-ghost use Rattle.board.specs.Blossoms.{of_blossom, link_of};
+ghost use Rattle.std.specs.Prelude.{◌≡◌, Some};
+ghost use Rattle.std.specs.Option.{option_map};
+ghost use Rattle.tables.specs.States.{blossom_of, state};
+ghost use Rattle.board.specs.Blossoms.{of_blossom, link_of, entry_of};
 
+use tables::node::Node;
+use tables::tables::Blossom;
 use tables::view::View;
 
-// The place of a blossom in use.
-fn place_of(view: View<'_>, node: usize) -> Option<usize>
-    ensures value { result ≡ of_blossom (state view.entry.tables.now) node (λ _. Some (node - 200)) }
-    ensures low { (i : ℕ) → result ≡ Some i → i < 100 }
+// The blossom that a node is.
+fn blossom_at<'a>(view: View<'a>, node: usize) -> Option<&'a Blossom>
+    ensures { option_map (λ b. b.now) result ≡ entry_of view.entry.tables.now node }
 {
-    if node < 200 {
-        return None;
-    }
-    if node >= 300 {
-        return None;
-    }
-    let place = node - 200;
-    if view.tables.blossoms[place].used {
-        Some(place)
-    } else {
-        None
+    match Node::from(node) {
+        Node::Blossom(at) => view.blossom(at),
+        Node::Member(_) => None,
     }
 }
 
 pub(crate) fn blossom_price(view: View<'_>, node: usize) -> Option<u32>
     ensures { result ≡ of_blossom (state view.entry.tables.now) node (λ b. Some b.price) }
 {
-    let place = place_of(view, node)?;
-    Some(view.tables.blossoms[place].price)
+    Some(blossom_at(view, node)?.price)
 }
 
 pub(crate) fn link(view: View<'_>, node: usize, at: usize) -> Option<(u16, u16)>
     ensures { result ≡ of_blossom (state view.entry.tables.now) node (link_of at) }
 {
-    let place = place_of(view, node)?;
-    let blossom = &view.tables.blossoms[place];
-    if at >= blossom.ring_len() {
-        return None;
-    }
-    Some((blossom.parts[at], blossom.joins[at]))
+    let link = blossom_at(view, node)?.ring().get(at)?;
+    Some((link.part, link.join))
 }

@@ -21,7 +21,7 @@ use crate::blossom_questions::{blossom_price, link};
 use crate::making::tables_of;
 use crate::questions::{check_member, gap, loose, partner, partners, saved};
 use crate::saving::Saving;
-use crate::writing::{free_ring, set_mates, set_ring};
+use crate::writing::{set_mates, set_place};
 use adjusts::check_adjust;
 use augments::mates_after;
 use blossoms::{ring_of, roots_after};
@@ -50,12 +50,21 @@ impl<S: Source + Drop> Board<S> {
         Board { source, tables }
     }
 
+    // The tables for reading, with what they keep.
+    fn view(&self) -> View<'_>
+        ensures { result.tables.now ≡ self.now.tables }
+    {
+        View {
+            tables: &self.tables,
+        }
+    }
+
     // The most that any other pairing of the same offers can save beyond this one.
     pub fn slack(&self) -> u64
         ensures value { result ≡ S.Source.carried self.now.source (gap self.now.tables) }
         ensures truth { Shows (S.Source.size self.now.source) (S.Source.rows self.now.source) (S.Source.highest self.now.source) self.now.tables → Bounds (S.Source.rows self.now.source) (ground_saving self.now.tables) result }
     {
-        self.source.carry(gap(&self.tables))
+        self.source.carry(gap(self.view()))
     }
 
     // Starts the prices: the floor and every price at 2k × top ticks of 1/(2k) mm.
@@ -78,6 +87,7 @@ impl<S: Source + Drop> Board<S> {
         ensures source { self.new.source ≡ self.old.source }
         ensures shows { StillShows self.old.tables self.new.tables }
     {
+        // Here and in the steps below the view is made at its call: with a function between, that nothing else changed finds no proof.
         let view = View {
             tables: &self.tables,
         };
@@ -113,9 +123,8 @@ impl<S: Source + Drop> Board<S> {
             tables: &self.tables,
         };
         let ring = ring_of(view, root, offers)?;
-        let place = ring.place;
-        set_ring(&mut self.tables, place, ring.blossom, ring.roots);
-        Ok(200 + place)
+        set_place(&mut self.tables, ring.place, Some(ring.blossom), ring.roots);
+        Ok(200 + ring.place)
     }
 
     // Makes the parts of a root blossom of price 0 roots, and its number free.
@@ -130,7 +139,7 @@ impl<S: Source + Drop> Board<S> {
             tables: &self.tables,
         };
         let roots = roots_after(view, node)?;
-        free_ring(&mut self.tables, node - 200, roots);
+        set_place(&mut self.tables, node - 200, None, roots);
         Ok(())
     }
 
@@ -174,30 +183,21 @@ impl<S: Source + Drop> Board<S> {
     pub fn is_root(&self, node: usize) -> bool
         ensures { result ≡ is_root (state self.now.tables) node }
     {
-        let view = View {
-            tables: &self.tables,
-        };
-        is_root(view, node)
+        is_root(self.view(), node)
     }
 
     // The price of a blossom in ticks, and nothing of a node that is none.
     pub fn blossom_price(&self, node: usize) -> Option<u32>
         ensures { result ≡ of_blossom (state self.now.tables) node (λ b. Some b.price) }
     {
-        let view = View {
-            tables: &self.tables,
-        };
-        blossom_price(view, node)
+        blossom_price(self.view(), node)
     }
 
     // The part at a place of a blossom's ring and the offer that joins it to the next, and nothing past the last part.
     pub fn link(&self, node: usize, at: usize) -> Option<(u16, u16)>
         ensures { result ≡ of_blossom (state self.now.tables) node (link_of at) }
     {
-        let view = View {
-            tables: &self.tables,
-        };
-        link(view, node, at)
+        link(self.view(), node, at)
     }
 
     // The member that a member is paired with, if any.
@@ -205,34 +205,28 @@ impl<S: Source + Drop> Board<S> {
         ensures { result ≡ of_member self.now.tables member (partner_of self.now.tables member) }
     {
         check_member(&self.tables, member)?;
-        Ok(partner(&self.tables, member))
+        Ok(partner(self.view(), member))
     }
 
     // How many members the pairing leaves out.
     pub fn loose(&self) -> usize
         ensures { result ≡ loose_of self.now.tables }
     {
-        loose(&self.tables)
+        loose(self.view())
     }
 
     // The shown saving of the pairing.
     pub fn shown(&self) -> u64
         ensures { result ≡ shown_saving self.now.tables }
     {
-        let view = View {
-            tables: &self.tables,
-        };
-        saved(view, Saving::Shown)
+        saved(self.view(), Saving::Shown)
     }
 
     // The ground saving of the pairing.
     pub fn ground(&self) -> u64
         ensures { result ≡ ground_saving self.now.tables }
     {
-        let view = View {
-            tables: &self.tables,
-        };
-        saved(view, Saving::Ground)
+        saved(self.view(), Saving::Ground)
     }
 
     // Uses up the board, and gives its plan.
@@ -247,7 +241,7 @@ impl<S: Source + Drop> Board<S> {
             slack: self.slack(),
             floor: self.floor(),
             loose: self.loose(),
-            partners: partners(&self.tables),
+            partners: partners(self.view()),
         }
     }
 }

@@ -6,7 +6,8 @@ ghost use Rattle.matching.specs.Sums.{below};
 
 use matching::row::Row;
 use sources::source::Source;
-use tables::tables::{Blossom, Tables};
+use std::array;
+use tables::tables::Tables;
 
 fn row_of<S: Source>(source: &S, offer: usize) -> Row
     ensures { result ≡ row (S.Source.rows source.now) offer }
@@ -23,27 +24,14 @@ fn row_of<S: Source>(source: &S, offer: usize) -> Row
 fn all_rows<S: Source>(source: &S) -> [Row; 4000]
     ensures { result ≡ padded (S.Source.rows source.now) }
 {
-    let mut rows = [Row {
-        first: 0,
-        second: 0,
-        shown: 0,
-        ground: 0,
-    }; 4000];
-    for e in 0..source.offers() {
-        rows[e] = row_of(source, e);
-    }
-    rows
+    array::from_fn(|offer| row_of(source, offer))
 }
 
 // Each member is a root by itself.
 fn own_roots() -> [u16; 200]
     ensures { result ≡ below 200 }
 {
-    let mut roots = [0u16; 200];
-    for v in 0..200 {
-        roots[v as usize] = v;
-    }
-    roots
+    array::from_fn(|member| member as u16)
 }
 
 pub(crate) fn tables_of<S: Source>(source: &S) -> Tables
@@ -59,13 +47,6 @@ pub(crate) fn tables_of<S: Source>(source: &S) -> Tables
         prices: [0; 200],
         mates: [None; 200],
         roots: own_roots(),
-        blossoms: [Blossom {
-            used: false,
-            price: 0,
-            len: 0,
-            parts: [0; 200],
-            joins: [0; 200],
-            holds: [false; 200],
-        }; 100],
+        blossoms: [None; 100],
     }
 }

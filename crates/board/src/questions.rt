@@ -1,14 +1,13 @@
 // The questions, read off the tables.
-ghost use Rattle.std.specs.Prelude.{◌≡◌, ℕ, ◌<◌, ◌≤◌, if◌then◌else◌, None, nat_lt, slice_index_or};
-ghost use Rattle.tables.specs.States.{offered};
-ghost use Rattle.tables.specs.Kept.{Keeps};
+ghost use Rattle.std.specs.Prelude.{◌≡◌, ℕ, ◌<◌, ◌≤◌, count_by, if◌then◌else◌, is_none, None, nat_lt, slice_index_or};
 ghost use Rattle.board.specs.Savings.{saving_in, saved};
 ghost use Rattle.board.specs.Questions.{of_member, partner_of, loose_of, gap};
 
 use crate::saving::Saving;
 use faults::layers::BoardFault;
-use matching::pairing::{most_pairs, most_shown};
 use matching::row::Row;
+use matching::theorems::most_gap;
+use std::array;
 use tables::tables::Tables;
 use tables::view::View;
 
@@ -27,24 +26,23 @@ impl Saving {
 pub(crate) fn saved(view: View<'_>, saving: Saving) -> u64
     ensures { result ≡ saved saving view.entry.tables.now }
 {
-    let tables = view.tables;
+    // A loop: at the end of a chain the bound of the sum finds no proof.
     let mut sum = 0;
-    for e in 0..tables.offers {
+    for e in 0..view.tables.offers {
         if view.is_paired(e) {
-            sum += saving.of(tables.rows[e]) as u64;
+            sum += u64::from(saving.of(view.row(e)));
         }
     }
     sum
 }
 
 // The member that a member is paired with.
-pub(crate) fn partner(tables: &Tables, member: usize) -> Option<u32>
-    requires there { member < tables.now.members }
-    requires kept { Keeps tables.now }
-    ensures { result ≡ partner_of tables.now member }
+pub(crate) fn partner(view: View<'_>, member: usize) -> Option<u32>
+    requires { member < view.tables.now.members }
+    ensures { result ≡ partner_of view.entry.tables.now member }
 {
-    let mate = tables.mates[member]?;
-    let row = tables.rows[mate as usize];
+    let mate = view.tables.mates[member]?;
+    let row = view.row(mate as usize);
     if row.first as usize == member {
         Some(row.second)
     } else {
@@ -52,16 +50,22 @@ pub(crate) fn partner(tables: &Tables, member: usize) -> Option<u32>
     }
 }
 
-// The partner of each member, and nothing past the last.
-pub(crate) fn partners(tables: &Tables) -> [Option<u32>; 200]
-    requires { Keeps tables.now }
-    ensures { (v : ℕ) → v < 200 → slice_index_or result v None ≡ (if nat_lt v tables.now.members then partner_of tables.now v else None) }
+// The same, and nothing of a member that is not there.
+fn partner_if(view: View<'_>, member: usize) -> Option<u32>
+    ensures { result ≡ (if nat_lt member view.entry.tables.now.members then partner_of view.entry.tables.now member else None) }
 {
-    let mut partners = [None; 200];
-    for v in 0..tables.members {
-        partners[v] = partner(tables, v);
+    if member < view.tables.members {
+        partner(view, member)
+    } else {
+        None
     }
-    partners
+}
+
+// The partner of each member, and nothing past the last.
+pub(crate) fn partners(view: View<'_>) -> [Option<u32>; 200]
+    ensures { (v : ℕ) → v < 200 → slice_index_or result v None ≡ (if nat_lt v view.entry.tables.now.members then partner_of view.entry.tables.now v else None) }
+{
+    array::from_fn(|member| partner_if(view, member))
 }
 
 // Whether there is such a member.
@@ -74,34 +78,30 @@ pub(crate) fn check_member(tables: &Tables, member: usize) -> Result<(), BoardFa
     Ok(())
 }
 
-// How many members are loose.
-pub(crate) fn loose(tables: &Tables) -> usize
-    requires { Keeps tables.now }
-    ensures value { result ≡ loose_of tables.now }
-    ensures bound { result ≤ tables.now.members }
+fn count_none(mates: &[Option<u16>]) -> usize
+    ensures { result ≡ count_by is_none mates.now }
 {
-    let mut count = 0;
-    for v in 0..tables.members {
-        let mate = tables.mates[v];
-        if mate.is_none() {
-            count += 1;
-        }
-    }
-    count
+    mates.iter().filter(|mate| mate.is_none()).count()
+}
+
+// How many members are loose.
+pub(crate) fn loose(view: View<'_>) -> usize
+    ensures value { result ≡ loose_of view.entry.tables.now }
+    ensures bound { result ≤ view.entry.tables.now.members }
+{
+    count_none(&view.tables.mates[..view.tables.members])
 }
 
 // By how much any pairing can show more than this one.
-pub(crate) fn gap(tables: &Tables) -> u64
-    requires { Keeps tables.now }
-    ensures { result ≡ gap tables.now }
+pub(crate) fn gap(view: View<'_>) -> u64
+    ensures { result ≡ gap view.entry.tables.now }
 {
-    let members = tables.members as u32;
-    let most = most_shown(members, tables.top);
-    match tables.begun {
-        None => most,
-        Some(k) => {
-            let ticks = 2 * most_pairs(members) as u64 + tables.floor as u64 * loose(tables) as u64;
-            most.min(ticks / (2 * k as u64))
-        }
-    }
+    let tables = view.tables;
+    most_gap(
+        tables.begun,
+        tables.members as u32,
+        tables.top,
+        tables.floor,
+        loose(view) as u32,
+    )
 }

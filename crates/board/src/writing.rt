@@ -1,7 +1,6 @@
 // The write halves of augment, shrink and dissolve, which cannot fail.
 ghost use Rattle.std.specs.Prelude.{◌≡◌, ◌<◌};
-ghost use Rattle.tables.specs.States.{place};
-ghost use Rattle.board.specs.Steps.{mated_anew, ringed_anew, free_place};
+ghost use Rattle.board.specs.Steps.{mated_anew, ringed_anew};
 
 use tables::tables::{Blossom, Tables};
 
@@ -11,20 +10,11 @@ pub(crate) fn set_mates(tables: &mut Tables, mates: [Option<u16>; 200])
     tables.mates = mates;
 }
 
-// A new blossom, and the roots after it is made.
-pub(crate) fn set_ring(tables: &mut Tables, at: usize, ring: Blossom, roots: [u16; 200])
+// A new blossom at a place, or a place free again; and the roots after that.
+pub(crate) fn set_place(tables: &mut Tables, at: usize, blossom: Option<Blossom>, roots: [u16; 200])
     requires { at < 100 }
-    ensures { tables.new ≡ ringed_anew tables.old roots at ring }
+    ensures { tables.new ≡ ringed_anew tables.old roots at blossom }
 {
-    tables.blossoms[at] = ring;
-    tables.roots = roots;
-}
-
-// A place free again, and the roots after that.
-pub(crate) fn free_ring(tables: &mut Tables, at: usize, roots: [u16; 200])
-    requires { at < 100 }
-    ensures { tables.new ≡ ringed_anew tables.old roots at (free_place (place tables.old at)) }
-{
-    tables.blossoms[at].used = false;
+    tables.blossoms[at] = blossom;
     tables.roots = roots;
 }

@@ -1,26 +1,16 @@
 // Sheets and the texts that answer them.
 use answer::answer;
+use faults::code::Code;
 use sources::offer::Offer;
 use std::process::Abort;
 use std::test::Fail;
 
-const NO_OFFER: Offer = Offer {
-    first: 0,
-    second: 0,
-    saving: 0,
-};
-
 // Three slots for offers, so that a fourth is refused.
 fn says(rt: &impl Abort, sheet: &[u8], expected: &[u8]) -> Result<(), Fail> {
-    let mut slots = [NO_OFFER; 3];
+    let mut slots = [Offer::default(); 3];
     let mut text = [0u8; 128];
-    let Ok(len) = answer(sheet, &mut slots, &mut text) else {
-        return Err(Fail::new("the text does not fit"));
-    };
-    let Some(written) = text.get(0..len) else {
-        return Err(Fail::new("longer than its buffer"));
-    };
-    assert!(rt; written == expected);
+    let len = answer(sheet, &mut slots, &mut text)?;
+    assert_eq!(rt; text.get(..len), Some(expected));
     Ok(())
 }
 
@@ -103,36 +93,24 @@ fn refusals_after_the_last_line(rt: HostRuntime) -> Result<(), Fail> {
 fn limits(rt: HostRuntime) -> Result<(), Fail> {
     let long = [b'('; 65_536];
     says(&rt, &long, b"(refused 1 1 0)\n")?;
-    let Some(longest) = long.get(0..65_535) else {
-        return Err(Fail::new("no such part"));
-    };
-    says(&rt, longest, b"(refused 1 2 1)\n")?;
+    says(&rt, &long[..65_535], b"(refused 1 2 1)\n")?;
     let sheet = b"(frame 3 1)\n(coarse 1 1)\n(offer (0 1) 7)\n(offer (0 7) 8)\n(offer 0 1)\n";
-    let mut slots = [NO_OFFER; 3];
+    let mut slots = [Offer::default(); 3];
     let mut text = [9u8; 16];
-    let Ok(16) = answer(sheet, &mut slots, &mut text) else {
-        return Err(Fail::new("another length"));
-    };
-    assert!(rt; text == *b"(refused 1 2 5)\n");
-    let first = Offer {
-        first: 0,
-        second: 1,
-        saving: 7,
-    };
-    let second = Offer {
-        first: 0,
-        second: 7,
-        saving: 8,
-    };
-    assert_eq!(rt; slots, [first, second, NO_OFFER]);
+    assert_eq!(rt; answer(sheet, &mut slots, &mut text)?, 16);
+    assert_eq!(rt; text, *b"(refused 1 2 5)\n");
+    assert_eq!(rt;
+        slots,
+        [Offer::new(0, 1, 7), Offer::new(0, 7, 8), Offer::default()]
+    );
     let mut short = [9u8; 15];
-    match answer(sheet, &mut slots, &mut short) {
-        Ok(_) => Err(Fail::new("too short a buffer was taken")),
-        Err(fault) => {
-            let code = fault.code();
-            assert!(rt; code.layer == 1 && code.number == 4 && code.place == 16);
-            assert_eq!(rt; short, [9u8; 15]);
-            Ok(())
-        }
-    }
+    let told = answer(sheet, &mut slots, &mut short).err().map(Code::from);
+    let expected = Code {
+        layer: 1,
+        number: 4,
+        place: 16,
+    };
+    assert_eq!(rt; told, Some(expected));
+    assert_eq!(rt; short, [9u8; 15]);
+    Ok(())
 }

@@ -10,45 +10,30 @@ use sources::source::Source;
 use std::process::Abort;
 use std::test::Fail;
 
-fn refused<T: Drop>(
-    rt: &impl Abort,
-    answer: Result<T, BoardFault>,
-    number: u32,
-    place: usize,
-) -> Result<(), Fail> {
-    match answer {
-        Ok(_) => Err(Fail::new("not refused")),
-        Err(fault) => {
-            assert_eq!(rt;
-                fault.code(),
-                Code {
-                    layer: 3,
-                    number,
-                    place,
-                }
-            );
-            Ok(())
-        },
-    }
-}
-
-fn offer(first: u32, second: u32, saving: u32) -> Offer {
-    Offer {
-        first,
-        second,
-        saving,
-    }
+// In each crate of tests its own: it ends a test, which no library may.
+fn refused<T: Drop>(rt: &impl Abort, answer: Result<T, BoardFault>, number: u32, place: usize) {
+    let told = answer.err().map(Code::from);
+    let expected = Code {
+        layer: 3,
+        number,
+        place,
+    };
+    assert_eq!(rt; told, Some(expected));
 }
 
 #[test]
 fn triangle(rt: HostRuntime) -> Result<(), Fail> {
-    let offers = [offer(0, 1, 4), offer(0, 2, 4), offer(1, 2, 4)];
+    let offers = [
+        Offer::new(0, 1, 4),
+        Offer::new(0, 2, 4),
+        Offer::new(1, 2, 4),
+    ];
     let mut board = Board::new(ListSource::new(3, &offers));
     assert_eq!(rt; board.slack(), 4);
     assert_eq!(rt; board.begun(), None);
     assert_eq!(rt; board.floor(), 0);
-    refused(&rt, board.begin(0), 23, 0)?;
-    refused(&rt, board.begin(33), 23, 33)?;
+    refused(&rt, board.begin(0), 23, 0);
+    refused(&rt, board.begin(33), 23, 33);
     assert_eq!(rt; board.begun(), None);
     board.begin(1)?;
     assert_eq!(rt; board.begun(), Some(1));
@@ -56,10 +41,10 @@ fn triangle(rt: HostRuntime) -> Result<(), Fail> {
     assert_eq!(rt; board.slack(), 4);
     assert_eq!(rt; board.price(2)?, 8);
     assert_eq!(rt; board.partner(2)?, None);
-    refused(&rt, board.price(3), 35, 3)?;
-    refused(&rt, board.partner(3), 35, 3)?;
+    refused(&rt, board.price(3), 35, 3);
+    refused(&rt, board.partner(3), 35, 3);
     // A begun board is told first, whatever the k.
-    refused(&rt, board.begin(40), 22, 0)?;
+    refused(&rt, board.begin(40), 22, 0);
     let plan = board.release();
     assert_eq!(rt; plan.members, 3);
     assert_eq!(rt; plan.slack, 4);
@@ -70,10 +55,11 @@ fn triangle(rt: HostRuntime) -> Result<(), Fail> {
 
 #[test]
 fn tops(rt: HostRuntime) -> Result<(), Fail> {
-    let offers = [offer(0, 1, 1001)];
+    let offers = [Offer::new(0, 1, 1001)];
     let mut high = Board::new(ListSource::new(2, &offers));
-    refused(&rt, high.begin(0), 23, 0)?;
-    refused(&rt, high.begin(32), 24, 1001)
+    refused(&rt, high.begin(0), 23, 0);
+    refused(&rt, high.begin(32), 24, 1001);
+    Ok(())
 }
 
 #[test]
@@ -82,17 +68,18 @@ fn nobody(rt: HostRuntime) -> Result<(), Fail> {
     assert_eq!(rt; empty.slack(), 0);
     empty.begin(32)?;
     assert_eq!(rt; empty.slack(), 0);
-    refused(&rt, empty.price(0), 35, 0)
+    refused(&rt, empty.price(0), 35, 0);
+    Ok(())
 }
 
 // Savings of 99, 100 and 199 over a hundredth, and half of that again.
 #[test]
 fn pile(rt: HostRuntime) -> Result<(), Fail> {
     let offers = [
-        offer(0, 1, 99),
-        offer(2, 3, 100),
-        offer(4, 5, 199),
-        offer(0, 5, 400),
+        Offer::new(0, 1, 99),
+        Offer::new(2, 3, 100),
+        Offer::new(4, 5, 199),
+        Offer::new(0, 5, 400),
     ];
     let list = ListSource::new(6, &offers);
     let coarse = Coarse::new(Coarse::new(list, 1000, 100_000), 1, 2);
@@ -111,28 +98,28 @@ fn pile(rt: HostRuntime) -> Result<(), Fail> {
 #[test]
 fn adjusts(rt: HostRuntime) -> Result<(), Fail> {
     let offers = [
-        offer(2, 3, 1),
-        offer(4, 5, 6),
-        offer(0, 1, 2),
-        offer(1, 4, 6),
-        offer(3, 5, 5),
+        Offer::new(2, 3, 1),
+        Offer::new(4, 5, 6),
+        Offer::new(0, 1, 2),
+        Offer::new(1, 4, 6),
+        Offer::new(3, 5, 5),
     ];
     let mut board = Board::new(ListSource::new(6, &offers));
-    refused(&rt, board.adjust(&[1; 6]), 21, 0)?;
+    refused(&rt, board.adjust(&[1; 6]), 21, 0);
     board.begin(1)?;
     assert_eq!(rt; board.floor(), 12);
-    refused(&rt, board.adjust(&[1; 5]), 30, 5)?;
-    refused(&rt, board.adjust(&[1; 7]), 30, 7)?;
-    refused(&rt, board.adjust(&[1, 1, 3, 1, 0, 2]), 30, 2)?;
-    refused(&rt, board.adjust(&[1, 0, 1, 1, 255, 1]), 30, 1)?;
+    refused(&rt, board.adjust(&[1; 5]), 30, 5);
+    refused(&rt, board.adjust(&[1; 7]), 30, 7);
+    refused(&rt, board.adjust(&[1, 1, 3, 1, 0, 2]), 30, 2);
+    refused(&rt, board.adjust(&[1, 0, 1, 1, 255, 1]), 30, 1);
     // W of the offers is 2, 12, 4, 12 and 10: at prices of 5 the second is at W - 2.
     for _ in 0..7 {
         board.adjust(&[1; 6])?;
     }
     assert_eq!(rt; board.floor(), 5);
     assert_eq!(rt; board.price(5)?, 5);
-    refused(&rt, board.adjust(&[1; 6]), 33, 1)?;
-    refused(&rt, board.adjust(&[1, 1, 1, 1, 2, 1]), 30, 4)?;
+    refused(&rt, board.adjust(&[1; 6]), 33, 1);
+    refused(&rt, board.adjust(&[1, 1, 1, 1, 2, 1]), 30, 4);
     assert_eq!(rt; board.floor(), 5);
     assert_eq!(rt; board.price(0)?, 5);
     // P × top is 3 × 6, and (2 × 3 + 5 × 6)/2 is the same.
@@ -146,8 +133,9 @@ fn floors(rt: HostRuntime) -> Result<(), Fail> {
     let mut board = Board::new(ListSource::new(0, &[]));
     board.begin(3)?;
     assert_eq!(rt; board.floor(), 0);
-    refused(&rt, board.adjust(&[]), 31, 0)?;
-    refused(&rt, board.adjust(&[1]), 30, 1)
+    refused(&rt, board.adjust(&[]), 31, 0);
+    refused(&rt, board.adjust(&[1]), 30, 1);
+    Ok(())
 }
 
 // Lengths under a coarse layer: savings of 2000, 0 and 0, shown as 200, 0 and 0.

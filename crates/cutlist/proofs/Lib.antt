@@ -1,1 +1,3 @@
+pub mod Branch
+pub mod First
 pub mod Passed

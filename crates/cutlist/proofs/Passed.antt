@@ -1,41 +1,20 @@
 -- Lengths and a stock that nothing stands against: how many, how long, and that the stock is rising. Assumes nothing.
-use Rattle.std.proofs.Common.{◌≡◌, ℕ, ◌+◌, ◌<◌, ◌≤◌, Bool, true, false, cond, ◌&&◌, leb, List, [], ◌∷◌, length, is_some, Some, None, Ok, Option, sym, refl, arith}
+use Rattle.std.proofs.Common.{◌≡◌, ℕ, ◌+◌, ◌<◌, ◌≤◌, false, ◌&&◌, leb, List, [], ◌∷◌, length, is_some, None, Ok, Option, sym, arith}
 use Rattle.std.specs.Option.{option_map}
 use Rattle.std.specs.List.{AllByRecursion as All}
 use Rattle.std.proofs.ByRecursion.{All-weaker}
-use Rattle.std.proofs.lemmas.Bool.{true≢false, and_parts, leb-true}
+use Rattle.std.proofs.lemmas.Bool.{and_parts, leb-true}
 use Rattle.faults.specs.declared.layers.SourceFault.{SourceFault}
 use Rattle.faults.specs.declared.layers.SourceFault.TheVariants.{TooManyMembers, BadStock, BadLength, WideCut}
 use Rattle.faults.specs.Checks.{judged, or_else, unless}
-use Rattle.faults.proofs.Judged.{passed}
+use Rattle.faults.proofs.Judged.{passed, not_some, or_else_none, unless_none, none_mapped, none_here}
 use Rattle.stock.specs.Stock.{Rising, largest_stock}
 use Rattle.cutlist.specs.Cutlists.{bad_stock, bad_length, stock_fault, length_fault}
-
--- where no fault is found, each test passed
-neither : {E : Type 0} (f g : Option E) → or_else f g ≡ None → (f ≡ None) × (g ≡ None)
-neither None g e = (refl, e)
-neither (Some f) g e = let z : ◌≡◌ {A = ℕ} 0 1 = cc in absurd (omega arith)
-
-not_some : {E : Type 0} (f : Option E) → is_some f ≡ false → f ≡ None
-not_some None e = refl
-not_some (Some f) e = absurd (true≢false e)
-
-met : {E : Type 0} (b : Bool) (f : E) → unless b f ≡ None → b ≡ true
-met true f e = refl
-met false f e = let z : ◌≡◌ {A = ℕ} 0 1 = cc in absurd (omega arith)
-
-none_mapped : {X E : Type 0} (F : X → E) (o : Option X) → option_map F o ≡ None → o ≡ None
-none_mapped F None e = refl
-none_mapped F (Some x) e = let z : ◌≡◌ {A = ℕ} 0 1 = cc in absurd (omega arith)
-
-here : (b : Bool) (r : Option ℕ) (i : ℕ) → cond b r (Some i) ≡ None → (b ≡ true) × (r ≡ None)
-here true r i e = (refl, e)
-here false r i e = let z : ◌≡◌ {A = ℕ} 0 1 = cc in absurd (omega arith)
 
 stock_low : (least i : ℕ) (ss : List ℕ) → bad_stock least i ss ≡ None → largest_stock ss ≤ 50000
 stock_low least i [] h = omega arith
 stock_low least i (s ∷ ss) h =
-    let p = here (leb least s && leb s 50000) (bad_stock (s + 1) (i + 1) ss) i h in
+    let p = none_here (leb least s && leb s 50000) (bad_stock (s + 1) (i + 1) ss) i h in
     let q = and_parts (leb least s) (leb s 50000) p.0 in
     omega (arith, leb-true s 50000 q.1, stock_low (s + 1) (i + 1) ss p.1)
 
@@ -44,17 +23,17 @@ module _ (ls ss : List ℕ) (c : ℕ) (sound : is_some (length_fault ls ss c) �
   later = or_else (option_map BadLength (bad_length (largest_stock ss) 0 ls)) (unless (leb c 20) (WideCut c))
 
   whole : (unless (leb (length ls) 89) (TooManyMembers (length ls)) ≡ None) × (or_else (stock_fault ss) later ≡ None)
-  whole = neither (unless (leb (length ls) 89) (TooManyMembers (length ls))) (or_else (stock_fault ss) later) (not_some (length_fault ls ss c) sound)
+  whole = or_else_none (unless (leb (length ls) 89) (TooManyMembers (length ls))) (or_else (stock_fault ss) later) (not_some (length_fault ls ss c) sound)
 
   pub members_few : length ls ≤ 89
-  members_few = leb-true (length ls) 89 (met (leb (length ls) 89) (TooManyMembers (length ls)) whole.0)
+  members_few = leb-true (length ls) 89 (unless_none (leb (length ls) 89) (TooManyMembers (length ls)) whole.0)
 
   stock_passed : bad_stock 0 0 ss ≡ None
   stock_passed =
-      let h = (neither (stock_fault ss) later whole.1).0 in
+      let h = (or_else_none (stock_fault ss) later whole.1).0 in
       let rest = or_else (unless (leb (length ss) 16) (BadStock 16)) (option_map BadStock (bad_stock 0 0 ss)) in
-      let k = (neither (unless (leb 1 (length ss)) (BadStock 0)) rest h).1 in
-      none_mapped BadStock (bad_stock 0 0 ss) (neither (unless (leb (length ss) 16) (BadStock 16)) (option_map BadStock (bad_stock 0 0 ss)) k).1
+      let k = (or_else_none (unless (leb 1 (length ss)) (BadStock 0)) rest h).1 in
+      none_mapped BadStock (bad_stock 0 0 ss) (or_else_none (unless (leb (length ss) 16) (BadStock 16)) (option_map BadStock (bad_stock 0 0 ss)) k).1
 
   pub top_low : largest_stock ss ≤ 50000
   top_low = stock_low 0 0 ss stock_passed
@@ -62,7 +41,7 @@ module _ (ls ss : List ℕ) (c : ℕ) (sound : is_some (length_fault ls ss c) �
 rising_from : (least i : ℕ) (ss : List ℕ) → bad_stock least i ss ≡ None → Rising ss × All (λ t. least ≤ t) ss
 rising_from least i [] h = (tt, tt)
 rising_from least i (s ∷ ss) h =
-    let p = here (leb least s && leb s 50000) (bad_stock (s + 1) (i + 1) ss) i h in
+    let p = none_here (leb least s && leb s 50000) (bad_stock (s + 1) (i + 1) ss) i h in
     let low : least ≤ s = leb-true least s (and_parts (leb least s) (leb s 50000) p.0).0 in
     let r = rising_from (s + 1) (i + 1) ss p.1 in
     ((All-weaker (λ t. s + 1 ≤ t) (λ t. s < t) (λ t k. omega arith) ss r.1, r.0), (low, All-weaker (λ t. s + 1 ≤ t) (λ t. least ≤ t) (λ t k. omega arith) ss r.1))

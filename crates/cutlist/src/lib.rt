@@ -2,6 +2,8 @@
 #![tactic(auto)]
 
 ghost use Rattle.std.specs.Prelude.{◌≡◌, Ok};
+ghost use Rattle.std.specs.Option.{option_map};
+ghost use Rattle.faults.specs.declared.layers.SourceFault.TheVariants.{BadStock, BadLength};
 ghost use Rattle.faults.specs.Checks.{judged};
 ghost use Rattle.stock.specs.Stock.{Rising};
 ghost use Rattle.cutlist.specs.Cutlists.{bad_stock, bad_length, stock_fault, length_fault};
@@ -13,30 +15,29 @@ use stock::largest;
 // The most stock lengths.
 const MOST_STOCK: usize = 16;
 
-// The first stock length that is too long or not above the one before it.
-fn unfit_stock(stock: &[u32]) -> Option<usize>
-    ensures { result ≡ bad_stock 0 0 stock.now }
+// Whether each stock length is above the one before it and none is too long.
+// A loop with the index stops at the first offender.
+fn check_rising(stock: &[u32]) -> Result<(), SourceFault>
+    ensures { result ≡ judged (option_map BadStock (bad_stock 0 0 stock.now)) }
 {
     let mut least = 0;
     for (i, s) in stock.iter().enumerate() {
         if *s < least || *s > 50_000 {
-            return Some(i);
+            return Err(SourceFault::BadStock(i));
         }
         least = *s + 1;
     }
-    None
+    Ok(())
 }
 
-// The first member whose length is 0 or over the longest stock length.
-fn unfit_length(top: u32, lengths: &[u32]) -> Option<usize>
-    ensures { result ≡ bad_length top 0 lengths.now }
+// Whether no member's length is 0 or over the longest stock length.
+fn check_lengths(top: u32, lengths: &[u32]) -> Result<(), SourceFault>
+    ensures { result ≡ judged (option_map BadLength (bad_length top 0 lengths.now)) }
 {
-    for (i, l) in lengths.iter().enumerate() {
-        if *l == 0 || *l > top {
-            return Some(i);
-        }
+    match lengths.iter().position(|l| *l == 0 || *l > top) {
+        Some(member) => Err(SourceFault::BadLength(member)),
+        None => Ok(()),
     }
-    None
 }
 
 // What stands against a list of stock lengths, if anything does.
@@ -49,10 +50,7 @@ fn check_stock(stock: &[u32]) -> Result<(), SourceFault>
     if stock.len() > MOST_STOCK {
         return Err(SourceFault::BadStock(MOST_STOCK));
     }
-    if let Some(i) = unfit_stock(stock) {
-        return Err(SourceFault::BadStock(i));
-    }
-    Ok(())
+    check_rising(stock)
 }
 
 // What stands against a source of these lengths, if anything does.
@@ -64,9 +62,7 @@ pub fn check(lengths: &[u32], stock: &[u32], cut: u32) -> Result<(), SourceFault
         return Err(SourceFault::TooManyMembers(lengths.len()));
     }
     check_stock(stock)?;
-    if let Some(member) = unfit_length(largest(stock), lengths) {
-        return Err(SourceFault::BadLength(member));
-    }
+    check_lengths(largest(stock), lengths)?;
     if cut > 20 {
         return Err(SourceFault::WideCut(cut));
     }

@@ -1,6 +1,6 @@
 -- The table of refusals: layer, number and place of every case. Contracts name a refusal by its case, and this says what it is told as.
 -- Assumes nothing.
-use Rattle.std.specs.Prelude.{ℕ}
+use Rattle.std.specs.Prelude.{ℕ, List, ◌++◌, codes, decimal}
 use Rattle.faults.specs.declared.code.Code.{Code}
 use Rattle.faults.specs.declared.fault.Fault.{Fault}
 use Rattle.faults.specs.declared.fault.Fault.TheVariants.{Sheet, Source, Board, Stack}
@@ -56,3 +56,7 @@ code_of (Sheet f) = sheet_code f
 code_of (Source f) = source_code f
 code_of (Board f) = board_code f
 code_of (Stack f) = stack_code f
+
+-- the three numbers in decimal, with a space between
+abbrev pub numbers_text : Code → List ℕ
+numbers_text c = decimal c.layer ++ (codes " " ++ (decimal c.number ++ (codes " " ++ decimal c.place)))

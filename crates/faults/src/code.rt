@@ -1,9 +1,10 @@
 // A fault as three numbers: its layer, its number in the table of refusals, and its place.
-ghost use Rattle.std.specs.Prelude.{◌≡◌};
-ghost use Rattle.faults.specs.Codes.{sheet_code, source_code, board_code, stack_code, code_of};
+ghost use Rattle.std.specs.Prelude.{◌≡◌, Some};
+ghost use Rattle.faults.specs.Codes.{sheet_code, source_code, board_code, stack_code, code_of, numbers_text};
 
 use crate::fault::Fault;
 use crate::layers::{BoardFault, SheetFault, SourceFault, StackFault};
+use std::fmt;
 
 #[derive(Clone, Copy, PartialEq, Eq, Debug)]
 pub struct Code {
@@ -12,11 +13,11 @@ pub struct Code {
     pub place: usize,
 }
 
-impl SheetFault {
-    pub fn code(self) -> Code
-        ensures { result ≡ sheet_code self }
-    {
-        let (number, place) = match self {
+impl From<SheetFault> for Code {
+    ghost from_gives = { λ f r. r ≡ sheet_code f };
+
+    fn from(fault: SheetFault) -> Code {
+        let (number, place) = match fault {
             SheetFault::TooLong => (1, 0),
             SheetFault::BadForm(line) => (2, line),
             SheetFault::ShortBuffer(len) => (4, len),
@@ -29,11 +30,11 @@ impl SheetFault {
     }
 }
 
-impl SourceFault {
-    pub fn code(self) -> Code
-        ensures { result ≡ source_code self }
-    {
-        let (number, place) = match self {
+impl From<SourceFault> for Code {
+    ghost from_gives = { λ f r. r ≡ source_code f };
+
+    fn from(fault: SourceFault) -> Code {
+        let (number, place) = match fault {
             SourceFault::TooManyMembers(count) => (11, count),
             SourceFault::TooManyOffers(most) => (12, most),
             SourceFault::BadMember(offer) => (13, offer),
@@ -51,11 +52,11 @@ impl SourceFault {
     }
 }
 
-impl BoardFault {
-    pub fn code(self) -> Code
-        ensures { result ≡ board_code self }
-    {
-        let (number, place) = match self {
+impl From<BoardFault> for Code {
+    ghost from_gives = { λ f r. r ≡ board_code f };
+
+    fn from(fault: BoardFault) -> Code {
+        let (number, place) = match fault {
             BoardFault::NotBegun => (21, 0),
             BoardFault::AlreadyBegun => (22, 0),
             BoardFault::BadK(k) => (23, k as usize),
@@ -80,11 +81,11 @@ impl BoardFault {
     }
 }
 
-impl StackFault {
-    pub fn code(self) -> Code
-        ensures { result ≡ stack_code self }
-    {
-        let StackFault::Full(slots) = self;
+impl From<StackFault> for Code {
+    ghost from_gives = { λ f r. r ≡ stack_code f };
+
+    fn from(fault: StackFault) -> Code {
+        let StackFault::Full(slots) = fault;
         Code {
             layer: 4,
             number: 41,
@@ -93,15 +94,23 @@ impl StackFault {
     }
 }
 
-impl Fault {
-    pub fn code(self) -> Code
-        ensures { result ≡ code_of self }
-    {
-        match self {
-            Fault::Sheet(fault) => fault.code(),
-            Fault::Source(fault) => fault.code(),
-            Fault::Board(fault) => fault.code(),
-            Fault::Stack(fault) => fault.code(),
+impl From<Fault> for Code {
+    ghost from_gives = { λ f r. r ≡ code_of f };
+
+    fn from(fault: Fault) -> Code {
+        match fault {
+            Fault::Sheet(fault) => Code::from(fault),
+            Fault::Source(fault) => Code::from(fault),
+            Fault::Board(fault) => Code::from(fault),
+            Fault::Stack(fault) => Code::from(fault),
         }
+    }
+}
+
+impl fmt::Display for Code {
+    ghost output = { λ c. Some (numbers_text c) };
+
+    fn fmt<W: fmt::Write>(&self, f: &mut fmt::Formatter<W>) -> fmt::Result {
+        write!(f, "{} {} {}", self.layer, self.number, self.place)
     }
 }

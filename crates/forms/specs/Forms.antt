@@ -8,6 +8,8 @@ use Rattle.forms.specs.declared.form.Form.TheVariants.{Frame, Coarse, Offer}
 use Rattle.forms.specs.declared.form.Keyword.{Keyword}
 use Rattle.forms.specs.declared.form.Keyword.TheVariants.{Framing, Coarsening, Offering}
 use Rattle.tokens.specs.declared.token.Kind.TheVariants.{Letter, Digit}
+use Rattle.tokens.specs.declared.token.Token.{Token}
+use Rattle.tokens.specs.declared.token.Token.TheVariants.{Open, Close, Name, Numeral}
 use Rattle.tokens.specs.Numerals.{numeral_of}
 use Rattle.tokens.specs.Tokens.{belongs, run}
 
@@ -36,6 +38,13 @@ next (Some a) go = go a
 abbrev pub byte : ℕ → List ℕ → Option (List ℕ)
 byte b [] = None
 byte b (c ∷ cs) = cond (c == b) (Some cs) None
+
+-- what follows the bracket, if the token is one
+abbrev pub bracket : Token → List ℕ → Option (List ℕ)
+bracket Open t = byte 40 t
+bracket Close t = byte 41 t
+bracket (Name w) t = None
+bracket (Numeral w) t = None
 
 -- the number that digits write
 abbrev pub amount : ℕ → List ℕ → ℕ

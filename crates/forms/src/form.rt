@@ -1,12 +1,12 @@
 // Forms: what a line of a sheet says.
 ghost use Rattle.std.specs.Prelude.{◌≡◌};
 ghost use Rattle.std.specs.Option.{option_map};
-ghost use Rattle.forms.specs.Forms.{byte, ended, name_of, Digits, plain, value_of, number_of, pair_of, two_of, offer_of, keyword_of, form, Exact, both_now, number_now, pair_now};
+ghost use Rattle.forms.specs.Forms.{byte, bracket, ended, name_of, Digits, plain, value_of, number_of, pair_of, two_of, offer_of, keyword_of, form, Exact, both_now, number_now, pair_now};
 
 use sources::offer::Offer;
 use tokens::token::{Token, next_token};
 
-#[derive(Clone, Copy)]
+#[derive(Clone, Copy, PartialEq, Eq, Debug)]
 pub enum Form {
     Frame { members: u32, k: u32 },
     Coarse { x: u32, whole: u32 },
@@ -14,46 +14,35 @@ pub enum Form {
 }
 
 // The word that a form begins with.
-#[derive(Clone, Copy)]
+#[derive(Clone, Copy, PartialEq, Eq, Debug)]
 enum Keyword {
     Framing,
     Coarsening,
     Offering,
 }
 
-// What follows an opening bracket at the front; a closing one; a space.
-fn open(text: &[u8]) -> Option<&[u8]>
-    ensures { option_map (λ x. x.now) result ≡ byte 40 text.now }
+// What follows the wanted bracket at the front.
+fn bracket<'a>(wanted: Token, text: &'a [u8]) -> Option<&'a [u8]>
+    ensures { option_map (λ x. x.now) result ≡ bracket wanted.entry text.now }
 {
-    match next_token(text)? {
-        (Token::Open, rest) => Some(rest),
+    match (wanted, next_token(text)?) {
+        (Token::Open, (Token::Open, rest)) | (Token::Close, (Token::Close, rest)) => Some(rest),
         _ => None,
     }
 }
 
-fn close(text: &[u8]) -> Option<&[u8]>
-    ensures { option_map (λ x. x.now) result ≡ byte 41 text.now }
-{
-    match next_token(text)? {
-        (Token::Close, rest) => Some(rest),
-        _ => None,
-    }
-}
-
+// What follows a space at the front; a space is no token.
 fn space(text: &[u8]) -> Option<&[u8]>
     ensures { option_map (λ x. x.now) result ≡ byte 32 text.now }
 {
-    match text {
-        [b' ', rest @ ..] => Some(rest),
-        _ => None,
-    }
+    text.strip_prefix(b" ")
 }
 
 // A closing bracket and the line feed, and nothing else.
 fn end(text: &[u8]) -> Option<()>
     ensures { result ≡ ended text.now }
 {
-    match close(text)? {
+    match bracket(Token::Close, text)? {
         [b'\n'] => Some(()),
         _ => None,
     }
@@ -88,11 +77,7 @@ fn value(digits: &[u8]) -> Option<u32>
     if !is_plain(digits) {
         return None;
     }
-    let mut n: u32 = 0;
-    for d in digits {
-        n = n * 10 + (*d - b'0') as u32;
-    }
-    Some(n)
+    str::from_utf8(digits).ok()?.parse().ok()
 }
 
 // The number at the front, and what follows it.
@@ -127,8 +112,8 @@ fn two(text: &[u8]) -> Option<(u32, u32)>
 fn offer(text: &[u8]) -> Option<Offer>
     ensures { result ≡ offer_of text.now }
 {
-    let (first, second, rest) = pair(open(space(text)?)?)?;
-    let (saving, rest) = number(space(close(rest)?)?)?;
+    let (first, second, rest) = pair(bracket(Token::Open, space(text)?)?)?;
+    let (saving, rest) = number(space(bracket(Token::Close, rest)?)?)?;
     end(rest)?;
     Some(Offer {
         first,
@@ -140,14 +125,11 @@ fn offer(text: &[u8]) -> Option<Offer>
 fn keyword_of(word: &[u8]) -> Option<Keyword>
     ensures { result ≡ keyword_of word.now }
 {
-    if word == b"frame".as_slice() {
-        Some(Keyword::Framing)
-    } else if word == b"coarse".as_slice() {
-        Some(Keyword::Coarsening)
-    } else if word == b"offer".as_slice() {
-        Some(Keyword::Offering)
-    } else {
-        None
+    match word {
+        b"frame" => Some(Keyword::Framing),
+        b"coarse" => Some(Keyword::Coarsening),
+        b"offer" => Some(Keyword::Offering),
+        _ => None,
     }
 }
 
@@ -156,16 +138,10 @@ pub fn read_form(line: &[u8]) -> Option<Form>
     ensures value { result ≡ form line.now }
     ensures exactly { Exact line.now result }
 {
-    let (word, rest) = name(open(line)?)?;
+    let (word, rest) = name(bracket(Token::Open, line)?)?;
     match keyword_of(word)? {
-        Keyword::Framing => {
-            let (members, k) = two(rest)?;
-            Some(Form::Frame { members, k })
-        }
-        Keyword::Coarsening => {
-            let (x, whole) = two(rest)?;
-            Some(Form::Coarse { x, whole })
-        }
-        Keyword::Offering => Some(Form::Offer(offer(rest)?)),
+        Keyword::Framing => two(rest).map(|(members, k)| Form::Frame { members, k }),
+        Keyword::Coarsening => two(rest).map(|(x, whole)| Form::Coarse { x, whole }),
+        Keyword::Offering => offer(rest).map(Form::Offer),
     }
 }

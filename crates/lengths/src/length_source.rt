@@ -1,10 +1,12 @@
 // Member lengths, stock lengths and a saw cut as a source: shown and ground are what two members save by the rule of the stock.
-ghost use Rattle.std.specs.Prelude.{◌≡◌, false, [], ◌∷◌, length, is_some};
+ghost use Rattle.std.specs.Prelude.{◌≡◌, ◌<◌, false, [], ◌∷◌, length, is_some, IfSome};
+ghost use Rattle.std.specs.Option.{option_map_or};
 ghost use Rattle.faults.specs.Checks.{unless_fault};
+ghost use Rattle.matching.specs.Rows.{row, no_row};
 ghost use Rattle.sources.specs.ListRows.{list_carry};
 ghost use Rattle.stock.specs.Stock.{largest_stock};
 ghost use Rattle.cutlist.specs.Cutlists.{length_fault};
-ghost use Rattle.lengths.specs.Lengths.{length_rows};
+ghost use Rattle.lengths.specs.Lengths.{length_row, length_rows};
 ghost use Rattle.lengths.specs.LengthLaws.{length_laws};
 
 use cutlist::check;
@@ -42,6 +44,14 @@ impl<'a> LengthSource<'a> {
             },
         }
     }
+
+    // The two members of an offer, the lower first; none past the last.
+    fn pair(&self, offer: usize) -> Option<(usize, usize)>
+        ensures row { row (length_rows self.now.lengths.now self.now.stock.now self.now.cut) offer ≡ option_map_or (length_row self.now.lengths.now self.now.stock.now self.now.cut) result no_row }
+        ensures within { IfSome result (λ p. (p.0 < p.1) × (p.1 < length self.now.lengths.now)) }
+    {
+        members_of(self.lengths.len(), offer)
+    }
 }
 
 impl Source for LengthSource<'_> {
@@ -67,19 +77,18 @@ impl Source for LengthSource<'_> {
         largest(self.stock)
     }
 
+    // One line, as for a list of offers: each source states the law of its own savings.
     fn carry(&self, s: u64) -> u64 {
         s.min(most_shown(self.members() as u32, self.top()))
     }
 
     fn ends(&self, offer: usize) -> (u32, u32) {
-        match members_of(self.lengths.len(), offer) {
-            Some((u, v)) => (u as u32, v as u32),
-            None => (0, 0),
-        }
+        self.pair(offer)
+            .map_or((0, 0), |(u, v)| (u as u32, v as u32))
     }
 
     fn shown(&self, offer: usize) -> u32 {
-        match members_of(self.lengths.len(), offer) {
+        match self.pair(offer) {
             Some((u, v)) => saving(self.stock, self.cut, self.lengths[u], self.lengths[v]),
             None => 0,
         }

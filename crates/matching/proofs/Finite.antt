@@ -30,7 +30,7 @@ of_some None P h e q = absurd (none_some q)
 of_some (Some d) P h e q = subst P (some_is q) h
 
 -- past the end of a list that is filled up, there is nothing
-getD_filler : {X : Type 0} (n i : ℕ) (d : X) → get_or (replicate n d) i d ≡ d
+pub getD_filler : {X : Type 0} (n i : ℕ) (d : X) → get_or (replicate n d) i d ≡ d
 getD_filler zero i d = refl
 getD_filler (suc n) zero d = refl
 getD_filler (suc n) (suc i) d = getD_filler n i d

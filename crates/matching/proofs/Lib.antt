@@ -14,3 +14,4 @@ pub mod Search
 pub mod Nesting
 pub mod Inside
 pub mod Start
+pub mod Made

@@ -26,10 +26,14 @@ module _ (s : State) where
       cond-false (ltb (200 + i) 200) (eqb (200 + i) v) (inside (blossom_at s (200 + i - 200)) v) (le-ltb (200 + i) 200 (omega arith))
       ∙ ap (λ j. inside (blossom_at s j) v) (let e : 200 + i - 200 ≡ i = omega arith in e)
 
+  -- a member alone holds itself only
+  pub node_alone : (p v : ℕ) → p < 200 → node_holds s p v ≡ true → p ≡ v
+  node_alone p v l h = eqb-true p v (sym (cond-true (ltb p 200) (eqb p v) (inside (blossom_at s (p - 200)) v) (lt-ltb p 200 l)) ∙ h)
+
   -- a node that holds a member is that member, or a blossom
   pub holds_cases : (p v : ℕ) → node_holds s p v ≡ true → (p ≡ v) ⊎ ((i : ℕ) × (p ≡ 200 + i) × (inside (blossom_at s i) v ≡ true))
   holds_cases p v h = elim (cases_lt p 200) [
-    | inl l ↦ inl (eqb-true p v (sym (cond-true (ltb p 200) (eqb p v) (inside (blossom_at s (p - 200)) v) (lt-ltb p 200 l)) ∙ h))
+    | inl l ↦ inl (node_alone p v l h)
     | inr l ↦ inr (p - 200, omega arith, sym (cond-false (ltb p 200) (eqb p v) (inside (blossom_at s (p - 200)) v) (le-ltb p 200 l)) ∙ h)
   ]
 

@@ -17,5 +17,6 @@ pub fn most_shown(members: u32, top: u32) -> u64
     ensures value { result ≡ members / 2 * top }
     ensures bound { (rows : List Row) (es : List ℕ) → AllSound members top rows → Pairing rows es → shown_of rows es ≤ result }
 {
+    // Here and in the theorems widened by casts: by `u64::from` the same value is proved at greater length.
     most_pairs(members) as u64 * top as u64
 }

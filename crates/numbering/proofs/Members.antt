@@ -1,8 +1,8 @@
 -- The members of an offer by its number, where the numbers end, and the number of two members. Assumes nothing.
-use Rattle.std.proofs.Common.{◌≡◌, ℕ, suc, ◌-◌, ◌<◌, ◌≤◌, ◌&&◌, ltb, leb, Some, None, Option, sym, refl, ap, ◌∙◌, ⊎_elim, arith}
+use Rattle.std.proofs.Common.{◌≡◌, ℕ, zero, suc, ◌-◌, ◌<◌, ◌≤◌, ◌&&◌, ltb, leb, Some, None, Option, sym, refl, ap, ◌∙◌, arith}
 use Rattle.std.specs.List.{slice_get}
 use Rattle.std.proofs.lemmas.Option.{slice_get-get_or, slice_get_past}
-use Rattle.std.proofs.lemmas.Bool.{cases_lt, le-leb, lt-leb, lt-ltb, and_from, cond-true, cond-false, cond_both}
+use Rattle.std.proofs.lemmas.Bool.{le-leb, lt-leb, lt-ltb, and_from, cond-true, cond-false, cond_both}
 use Rattle.numbering.specs.Numbering.{offers_among, number, twos, twos_at, number_at}
 use Rattle.numbering.proofs.NumberingLaws.{among_more, length_twos, number_low, twos_number}
 
@@ -23,9 +23,13 @@ pub number_is : (u v : ℕ) → u < v → v < 89 → number_at u v ≡ Some (num
 number_is u v l h = cond-true (ltb u v && ltb v 89) (Some (number u v)) None (and_from (ltb u v) (ltb v 89) (lt-ltb u v l) (lt-ltb v 89 h))
 
 -- the row that an offer lies in
-pub in_row : (n v e : ℕ) → v ≤ n → offers_among v ≤ e → e < offers_among (suc v) → e < offers_among n → ((e - offers_among v < v) × (v < n))
-in_row n v e le from to short =
-    (omega (arith, among_more v), ⊎_elim (λ (h : v < n). h) (λ (h : n ≤ v). let same : v ≡ n = omega arith in let f : offers_among n ≤ e = rw same at from in absurd (omega (arith, f, short))) (cases_lt v n))
+pub in_row : (v e : ℕ) → offers_among v ≤ e → e < offers_among (suc v) → e - offers_among v < v
+in_row v e from to = omega (arith, among_more v)
+
+-- none lies below the first row
+pub none_left : {A : Type 0} (e v : ℕ) → e < offers_among v → v ≤ 0 → A
+none_left e zero short least = absurd (omega arith)
+none_left e (suc v) short least = absurd (omega arith)
 
 pub these : (n e x y u v : ℕ) → ◌≡◌ {A = Option (ℕ × ℕ)} (Some (x, y)) (Some (u, v)) → n ≤ 89 → x < y → y < n → number x y ≡ e → (u < v) × (v < n) × (number_at u v ≡ Some e)
 these n e x y u v same few l h is =

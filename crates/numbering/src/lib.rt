@@ -37,9 +37,12 @@ pub fn members_of(members: usize, offer: usize) -> Option<(usize, usize)>
     if members > MOST_LENGTHS || offer >= offers_among(members) {
         return None;
     }
-    let mut v = members;
-    while offers_among(v) > offer {
-        v -= 1;
+    // A loop: a chain would hand `before` and `v` on in pairs, from closure to closure.
+    for v in (0..members).rev() {
+        let before = offers_among(v);
+        if before <= offer {
+            return Some((offer - before, v));
+        }
     }
-    Some((offer - offers_among(v), v))
+    None
 }

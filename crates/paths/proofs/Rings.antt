@@ -7,7 +7,7 @@ use Rattle.matching.specs.State.{State, Blossom, blossom_at, InUse, inside, node
 use Rattle.matching.specs.Kept.{Kept, Node, Between, Ring, part_at, part_after, size}
 use Rattle.matching.proofs.Sums.{total_nil, total_cons}
 use Rattle.matching.proofs.Nesting.{part_member, part_inside}
-use Rattle.steps.proofs.Roots.{node_alone}
+use Rattle.matching.proofs.Nodes.{node_alone}
 use Rattle.paths.specs.Bare.{Link, links, ring}
 use Rattle.paths.proofs.Lists.{In, here, there, bit, bit_no, crowd, crowd_find}
 use Rattle.paths.proofs.Links.{Chain}

@@ -1,10 +1,9 @@
 -- `==` on plans decides whether they are the same. Assumes nothing.
-use Rattle.std.proofs.Common.{◌≡◌, ℕ, Bool, List, Some, None, Decides, Option, nat_eq, refl, ap, true≢false, sym}
+use Rattle.std.proofs.Common.{◌≡◌, ℕ, Some, None, Decides, Option, nat_eq, refl, ap, true≢false, sym}
 use Rattle.std.specs.Option.{option_eq}
 use Rattle.std.specs.Cmp.Lexicographic.{pointwise}
 use Rattle.std.proofs.lemmas.Slice.Eq.{slice_eq-Decides}
 use Rattle.std.proofs.lemmas.Bool.Decides.{Decides-eqb, Decides-and}
-use Rattle.plan.specs.declared.plan.Plan.{Plan}
 use Rattle.plan.specs.Plans.{partners_of, SameIsTested}
 
 alike_decide : (o p : Option ℕ) → Decides (option_eq nat_eq o p) (o ≡ p)

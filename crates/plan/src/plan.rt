@@ -3,7 +3,7 @@ ghost use Rattle.std.specs.Prelude.{◌≤◌};
 
 #[derive(Clone, Copy)]
 pub struct Plan {
-    // Members are numbered from 0; partners past the last member say nothing.
+    // Members are numbered from 0; partners past the last member say nothing. They stand in an array, so that no plan wants memory.
     pub members: usize,
     pub shown: u64,
     pub ground: u64,

@@ -7,6 +7,7 @@ ghost use Rattle.plan.specs.Plans.{Same, is_same, SameIsTested};
 
 use crate::plan::Plan;
 
+// Not derived: what the array holds past the last member does not count.
 impl PartialEq for Plan {
     ghost eq = { is_same };
 
@@ -18,7 +19,7 @@ impl PartialEq for Plan {
         ensures tested { SameIsTested }
     {
         self.members == other.members
-            && &self.partners[0..self.members] == &other.partners[0..other.members]
+            && &self.partners[..self.members] == &other.partners[..other.members]
     }
 }
 

@@ -1,6 +1,7 @@
 -- What fits of a text that grows: cutting early or late is the same. Assumes nothing.
-use Rattle.std.proofs.Common.{◌≡◌, ℕ, zero, suc, ◌+◌, ◌<◌, ◌≤◌, List, [], ◌∷◌, ◌++◌, length, get_or, take, drop, set, sym, refl, ap, ◌∙◌, append_assoc, arith}
-use Rattle.std.proofs.lemmas.List.{append-nil, length_push, length-take, length-take-le, take_all, take_at, take_more_set, at_drop_more, at_drop_all}
+use Rattle.std.proofs.Common.{Result, Ok, Err, IsOk, OnOk, true≢false, ◌≡◌, ℕ, zero, suc, ◌+◌, ◌<◌, ◌≤◌, List, [], ◌∷◌, ◌++◌, length, get_or, take, drop, min, ⊎_elim, sym, refl, ap, ◌∙◌, append_assoc, arith}
+use Rattle.std.proofs.lemmas.Bool.{cases_lt}
+use Rattle.std.proofs.lemmas.List.{take-append-drop, length-append, append-nil, length-take, length-take-le, take_all, take_at, at_drop_more, at_drop_all}
 use Rattle.report.specs.declared.draft.Draft.{Draft}
 use Rattle.report.specs.Drafts.{held, capped}
 
@@ -25,18 +26,28 @@ capped_then now was xs ys e =
 pub push_then : (after now was xs ys : List ℕ) → now ≡ capped (was ++ xs) → after ≡ capped (now ++ ys) → after ≡ capped (was ++ (xs ++ ys))
 push_then after now was xs ys e p = p ∙ capped_then now was xs ys e
 
--- one byte more, where there is room
-pub push_room : (bs : List ℕ) (n b : ℕ) → n < 16384 → length bs ≡ 16384 → take (n + 1) (set bs n b) ≡ capped (take n bs ++ b ∷ [])
-push_room bs n b l e =
-    let short : length (take n bs ++ b ∷ []) ≤ 16384 = omega (arith, length_push (take n bs) b, length-take-le n bs (omega arith)) in
-    take_more_set bs n b (omega arith) ∙ sym (capped_short (take n bs ++ b ∷ []) short)
-
--- and where there is none
-pub push_full : (bs : List ℕ) (n b : ℕ) → n ≡ 16384 → length bs ≡ 16384 → take n bs ≡ capped (take n bs ++ b ∷ [])
+-- a piece may be cut to the room for it
+cut_late : (old piece : List ℕ) (room fits : ℕ) → room + length old ≡ 16384 → fits ≡ room → room < length piece → capped (old ++ take fits piece) ≡ capped (old ++ piece)
 unfolding capped
-push_full bs n b full e = sym (take_at (take n bs) (b ∷ []) 16384 (length-take-le n bs (omega arith) ∙ full))
+cut_late old piece room fits full all l =
+    let front = old ++ take fits piece in
+    let long : length front ≡ 16384 = omega (arith, length-append old (take fits piece), length-take-le fits piece (omega arith)) in
+    let split : front ++ drop fits piece ≡ old ++ piece = append_assoc old (take fits piece) (drop fits piece) ∙ ap (λ ys. old ++ ys) (take-append-drop fits piece) in
+    take_all 16384 front (omega arith) ∙ sym (take_at front (drop fits piece) 16384 long) ∙ ap (take 16384) split
+
+-- what is said of a success, where there is one
+pub added : {E P : Type 0} (r : Result (Unit {0}) E) → IsOk r → OnOk r P → P
+added (Ok u) ok h = h
+added (Err e) ok h = absurd (true≢false (sym ok))
+
+pub push_fitting : (old new piece : List ℕ) (room fits : ℕ) → room + length old ≡ 16384 → fits ≡ min (length piece) room → new ≡ old ++ take fits piece → capped new ≡ capped (capped old ++ piece)
+push_fitting old new piece room fits full least e =
+    ap capped e
+    ∙ ⊎_elim (λ l. cut_late old piece room fits full (omega arith) l) (λ l. ap (λ ys. capped (old ++ ys)) (take_all fits piece (omega arith))) (cases_lt room (length piece))
+    ∙ sym (capped_capped old piece)
 
 pub held_short : (s : Draft) → length (held s) ≤ 16384
+unfolding capped
 held_short s = simp length-take (omega arith)
 
 -- what a text holds fits

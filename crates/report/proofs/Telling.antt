@@ -29,9 +29,6 @@ Telling f k ms i was now =
     × (length (told_from f 0 ms) ≤ k * i + length (told_from f i (drop i ms)))
 
 module _ (f : ℕ → Option ℕ → List ℕ) (k : ℕ) (ms : List (Option ℕ)) (was : List ℕ) where
-  pub tell_none : Telling f k ms 0 was was
-  tell_none = (refl, omega arith)
-
   module _ (i : ℕ) (now : List ℕ) (inv : Telling f k ms i was now) where
     shorter : i < length ms → (piece : List ℕ) → f i (get_or ms i None) ≡ piece → length piece ≤ k → length (told_from f 0 ms) ≤ k * (i + 1) + length (told_from f (i + 1) (drop (i + 1) ms))
     shorter l piece e short =

@@ -2,9 +2,10 @@
 use Rattle.std.specs.Prelude.{ℕ, List, take}
 use Rattle.report.specs.declared.draft.Draft.{Draft}
 
-abbrev pub held : Draft → List ℕ
-held s = take s.len s.bytes
-
 -- what fits of a text
 unfoldable pub capped : List ℕ → List ℕ
 capped bs = take 16384 bs
+
+-- no more than fits: the room for the text has that size
+abbrev pub held : Draft → List ℕ
+held s = capped s.text.items

@@ -1,9 +1,8 @@
-// A text in the making, of at most 16,384 bytes: longer than any answer.
-ghost use Rattle.std.specs.Prelude.{◌≤◌};
+// A text in the making.
+use crate::LONGEST;
+use arrayvec::ArrayVec;
 
 #[derive(Drop)]
 pub struct Draft {
-    pub bytes: [u8; 16384],
-    pub len: usize,
-    ghost within: { len ≤ 16384 },
+    pub text: ArrayVec<u8, LONGEST>,
 }

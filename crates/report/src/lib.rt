@@ -8,9 +8,13 @@ mod draft;
 mod writer;
 
 use crate::draft::Draft;
+use faults::code::Code;
 use faults::fault::Fault;
 use faults::layers::SheetFault;
 use plan::plan::Plan;
+
+// Room for the text of an answer, in bytes; none is longer.
+pub const LONGEST: usize = 16_384;
 
 pub fn write_plan(plan: &Plan, buffer: &mut [u8]) -> Result<usize, SheetFault>
     ensures result { result ≡ write_result (plan_text plan.now) buffer.old }
@@ -28,7 +32,7 @@ pub fn write_plan(plan: &Plan, buffer: &mut [u8]) -> Result<usize, SheetFault>
             plan.loose as u64,
         ],
     );
-    let partners = &plan.partners[0..plan.members];
+    let partners = &plan.partners[..plan.members];
     text.push_pairs(partners);
     text.push_loose(partners);
     text.copy_into(buffer)
@@ -39,7 +43,7 @@ pub fn write_refusal(fault: Fault, buffer: &mut [u8]) -> Result<usize, SheetFaul
     ensures bytes { buffer.new ≡ written (refusal_text fault) buffer.old }
     ensures short { length (refusal_text fault) ≤ 73 }
 {
-    let code = fault.code();
+    let code = Code::from(fault);
     let mut text = Draft::new();
     text.push_form(
         b"refused",

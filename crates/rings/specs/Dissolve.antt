@@ -1,9 +1,9 @@
 -- Dissolve: when it is a step, and what it leaves. Assumes nothing.
-use Rattle.std.specs.Prelude.{ℕ, ◌-◌, false, cond, ◌&&◌, List, [], ◌∷◌, map, is_some, Option, ◌==◌, nat_le, nat_lt, slice_set}
+use Rattle.std.specs.Prelude.{ℕ, ◌-◌, cond, ◌&&◌, List, [], ◌∷◌, map, is_some, Option, ◌==◌, nat_le, nat_lt, slice_set}
 use Rattle.faults.specs.declared.layers.BoardFault.{BoardFault}
 use Rattle.faults.specs.declared.layers.BoardFault.TheVariants.{NotBegun, NotRoot, Priced}
 use Rattle.faults.specs.Checks.{or_else, unless}
-use Rattle.matching.specs.State.{State, Blossom, root_at, blossom_at, node_holds}
+use Rattle.matching.specs.State.{State, no_blossom, root_at, blossom_at, node_holds}
 use Rattle.matching.specs.Sums.{below}
 use Rattle.paths.specs.Walk.{is_root}
 use Rattle.rings.specs.Shrink.{with_blossoms}
@@ -20,13 +20,9 @@ abbrev pub holder : State → List ℕ → ℕ → ℕ
 holder s [] v = v
 holder s (q ∷ qs) v = cond (node_holds s q v) q (holder s qs v)
 
--- a blossom's place, free again
-abbrev pub freed : Blossom → Blossom
-freed b = record { used = false; price = b.price; parts = b.parts; joins = b.joins; holds = b.holds }
-
--- the state after the step: the parts of the blossom p are roots, and its number is free
+-- the state after the step: the parts of the blossom p are roots, and at its place there is none
 abbrev pub dissolved : State → ℕ → State
 dissolved s p =
     with_blossoms s
     (map (λ v. cond (nat_lt v s.members && root_at s v == p) (holder s (blossom_at s (p - 200)).parts v) (root_at s v)) (below 200))
-    (slice_set s.blossoms (p - 200) (freed (blossom_at s (p - 200))))
+    (slice_set s.blossoms (p - 200) no_blossom)

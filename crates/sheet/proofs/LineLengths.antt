@@ -1,25 +1,35 @@
 -- The first line: the steps of its count, and how it stands in the text. Assumes nothing.
-use Rattle.std.proofs.Common.{◌≡◌, ℕ, suc, ◌+◌, ◌<◌, ◌≤◌, true, false, cond, eqb, List, [], ◌∷◌, length, get_or, take, drop, sym, refl, ap, ◌∙◌, subst, ⊎_elim, add-one, arith}
-use Rattle.std.proofs.lemmas.List.{at_drop_more, at_drop_all}
-use Rattle.std.proofs.lemmas.Bool.{cases_Bool, cond-true, cond-false, cond_both, eqb-true}
+use Rattle.std.proofs.Common.{not, min, ◌++◌, ap, ◌∙◌, ◌≡◌, ℕ, suc, ◌+◌, ◌<◌, true, false, cond, eqb, List, [], ◌∷◌, length, take, drop, sym, refl, ap, ◌∙◌, subst, ⊎_elim, add-one, arith}
+use Rattle.std.specs.List.{position_or_len, IsFirstMatchOrLen}
+use Rattle.std.proofs.lemmas.List.{take_at, drop_at}
+use Rattle.std.proofs.lemmas.List.Sums.{position_or_len_is}
+use Rattle.std.proofs.lemmas.Bool.{cases_lt, cases_Bool, cond-true, cond-false, cond_both, eqb-true}
 use Rattle.sheet.specs.Lines.{lines, grow, first_length}
 
-module _ (bs : List ℕ) (i : ℕ) (inv : i + first_length (drop i bs) ≡ first_length bs) where
-  step : i < length bs → first_length bs ≡ i + cond (eqb (get_or bs i 0) 10) 1 (first_length (drop (i + 1) bs) + 1)
-  step l = sym inv ∙ at_drop_more (λ xs. i + first_length xs) bs i 0 l
+-- the first line ends with the first line feed, or with the text
+first_min : (bs : List ℕ) → first_length bs ≡ min (position_or_len (λ b. eqb b 10) bs + 1) (length bs)
+first_min [] = omega arith
+first_min (b ∷ bs) =
+    let h = first_min bs in
+    ⊎_elim
+    (λ t.
+    let one : first_length (b ∷ bs) ≡ 1 = cond-true (eqb b 10) 1 (first_length bs + 1) t in
+    let here : position_or_len (λ b. eqb b 10) (b ∷ bs) ≡ 0 = ap (λ x. cond (not x) (1 + position_or_len (λ b. eqb b 10) bs) 0) t in
+    omega (arith, one, here))
+    (λ f.
+    let more : first_length (b ∷ bs) ≡ first_length bs + 1 = cond-false (eqb b 10) 1 (first_length bs + 1) f in
+    let there : position_or_len (λ b. eqb b 10) (b ∷ bs) ≡ 1 + position_or_len (λ b. eqb b 10) bs = ap (λ x. cond (not x) (1 + position_or_len (λ b. eqb b 10) bs) 0) f in
+    omega (arith, more, there, h))
+    (cases_Bool (eqb b 10))
 
-  pub feed_here : i < length bs → eqb (get_or bs i 0) 10 ≡ true → i + 1 ≡ first_length bs
-  feed_here l h = sym (step l ∙ ap (λ b. i + cond b 1 (first_length (drop (i + 1) bs) + 1)) h)
-
-  pub no_feed : i < length bs → eqb (get_or bs i 0) 10 ≡ false → i + 1 + first_length (drop (i + 1) bs) ≡ first_length bs
-  no_feed l h = let e : first_length bs ≡ i + (first_length (drop (i + 1) bs) + 1) = step l ∙ ap (λ b. i + cond b 1 (first_length (drop (i + 1) bs) + 1)) h in omega arith
-
-  pub text_ends : length bs ≡ i → length bs ≡ first_length bs
-  text_ends l = let e : i + first_length (drop i bs) ≡ i + 0 = at_drop_all (λ xs. i + first_length xs) bs i (omega arith) in omega arith
-
-pub first_within : (bs : List ℕ) → first_length bs ≤ length bs
-first_within [] = omega arith
-first_within (b ∷ bs) = let h = first_within bs in cond_both (eqb b 10) 1 (first_length bs + 1) (λ n. n ≤ length (b ∷ bs)) (λ _. omega arith) (λ _. omega arith)
+-- the library cuts off the first line
+pub cut : (text line after : List ℕ) (i : ℕ) → text ≡ line ++ after → length line ≡ min (i + 1) (length text) → IsFirstMatchOrLen (λ b. eqb b 10) text i → (line ≡ take (first_length text) text) × (after ≡ drop (first_length text) text)
+cut text line after i whole long first =
+    let same : length line ≡ first_length text = ⊎_elim
+    (λ l. let at = position_or_len_is (λ b. eqb b 10) text i 0 (omega arith) (λ k m. first.0 k 0 (omega arith) m) (λ m. first.1 m 0) in omega (arith, long, first_min text, at))
+    (λ l. let at = position_or_len_is (λ b. eqb b 10) text (length text) 0 (omega arith) (λ k m. first.0 k 0 (omega arith) (omega arith)) (λ m. absurd (omega arith)) in omega (arith, long, first_min text, at))
+    (cases_lt i (length text)) in
+    (sym (ap (take (first_length text)) whole ∙ take_at line after (first_length text) same), sym (ap (drop (first_length text)) whole ∙ drop_at line after (first_length text) same))
 
 pub first_some : (bs : List ℕ) → 0 < length bs → 0 < first_length bs
 first_some [] l = absurd (omega arith)

@@ -1,6 +1,6 @@
 -- What the reader's loop keeps: the lines that are left give the outcome of the whole sheet. Assumes nothing.
 use Rattle.std.proofs.Common.{◌≡◌, ℕ, ◌+◌, ◌-◌, ◌<◌, ◌≤◌, min, List, ◌∷◌, ◌++◌, length, take, drop, Some, None, Ok, Err, Option, Result, sym, refl, ap, ◌∙◌, arith}
-use Rattle.std.proofs.lemmas.List.{take-append-drop, length-take-le, length-drop, drop-drop, nil_from_length}
+use Rattle.std.proofs.lemmas.List.{take-append-drop, length-take-le, length-drop, drop-drop}
 use Rattle.faults.specs.declared.fault.Fault.{Fault}
 use Rattle.faults.specs.declared.layers.SheetFault.{SheetFault}
 use Rattle.sources.specs.declared.offer.Offer.{Offer as Listed}
@@ -9,15 +9,15 @@ use Rattle.sheet.specs.declared.reader.Reader.{Reader}
 use Rattle.sheet.specs.declared.reader.State.{State}
 use Rattle.sheet.specs.declared.reader.State.TheVariants.{Frame, Coarse, Body}
 use Rattle.sheet.specs.Lines.{lines, first_length}
-use Rattle.sheet.specs.Readers.{stage_of, count, slots_in, stage_at, most_at, Within, judged_line, outcome_at, Lent, told, settled, Moves}
-use Rattle.sheet.specs.Sheets.{Stage, start, finish, offers_in, Outcome, onward, over, length_fault, otherwise, sheet_of, placed}
+use Rattle.sheet.specs.Counts.{count}
+use Rattle.sheet.specs.Readers.{stage_of, slots_in, stage_at, most_at, judged_line, outcome_at, Lent, told, settled, Moves}
+use Rattle.sheet.specs.Sheets.{Stage, start, offers_in, Outcome, onward, over, length_fault, otherwise, sheet_of, placed}
 use Rattle.sheet.proofs.LineLengths.{lines_split, first_some}
 
 -- r stands before the lines of rest, begun by first, and the outcome is o
 pub record Sofar (first : Reader) (o : Outcome) (rest : List ℕ) (r : Reader) : Type 0 where
   pub lent : Lent first r
   pub same : outcome_at r rest ≡ o
-  pub within : Within r
   pub kept : drop (count r.state) (slots_in r) ≡ drop (count r.state) (slots_in first)
   pub few : r.line + length rest ≤ 65536
 
@@ -27,11 +27,11 @@ offers_at (Coarse n k) slots = refl
 offers_at (Body sh) slots = refl
 
 -- the slots hold the offers, and then what they held
-placed_at : (r : Reader) (slots : List Listed) → Within r → drop (count r.state) (slots_in r) ≡ drop (count r.state) slots → slots_in r ≡ placed (offers_in (stage_at r)) slots
-placed_at r slots w e =
+placed_at : (r : Reader) (slots : List Listed) → drop (count r.state) (slots_in r) ≡ drop (count r.state) slots → slots_in r ≡ placed (offers_in (stage_at r)) slots
+placed_at r slots e =
     let m = count r.state in
     let now = slots_in r in
-    let front : placed (take m now) slots ≡ take m now ++ drop m slots = ap (λ n. take m now ++ drop n slots) (length-take-le m now w) in
+    let front : placed (take m now) slots ≡ take m now ++ drop m slots = ap (λ n. take m now ++ drop n slots) (length-take-le m now r.within) in
     sym (take-append-drop m now) ∙ ap (λ l. take m now ++ l) e ∙ sym front ∙ ap (λ os. placed os slots) (sym (offers_at r.state now))
 
 ok_step : (s : Stage) (j : Result Stage Fault) (u : Unit {0}) → Ok u ≡ told j → j ≡ Ok (settled s j)
@@ -74,7 +74,6 @@ module _ {first : Reader} {o : Outcome} {rest : List ℕ} {r : Reader} (h : Sofa
               (λ i. over (most i) (on i) (step.stage i) (lines after))
               ∙ sym (split ∙ ap (λ x. onward (stage_at r) x (λ s. over (most_at r) (r.line + 1) s (lines after))) j)
               ∙ h.same;
-          within = step.within;
           kept = kept_on;
           few = omega (arith, shorter, h.few);
         }
@@ -93,24 +92,13 @@ module _ {first : Reader} {o : Outcome} {rest : List ℕ} {r : Reader} (h : Sofa
         record {
           lends = h.lent ∙ step.lent;
           answers = ap (λ x. x.answer) out;
-          holds = placed_at r' slots step.within kept_on ∙ ap (λ s. placed (offers_in s) slots) stay ∙ ap (λ x. placed x.taken slots) out;
+          holds = placed_at r' slots kept_on ∙ ap (λ s. placed (offers_in s) slots) stay ∙ ap (λ x. placed x.taken slots) out;
         }
-
-  -- no line left
-  module _ (none : length rest ≡ 0) where
-    ends : record { answer = finish r.line (stage_at r); taken = offers_in (stage_at r) } ≡ o
-    ends = sym (ap (λ l. over (most_at r) r.line (stage_at r) (lines l)) (nil_from_length rest none)) ∙ h.same
-
-    pub end_answer : finish r.line (stage_at r) ≡ o.answer
-    end_answer = ap (λ x. x.answer) ends
-
-    pub end_holds : slots_in r ≡ placed o.taken slots
-    end_holds = placed_at r slots h.within h.kept ∙ ap (λ x. placed x.taken slots) ends
 
 no_fault : (x : Option SheetFault) (o : Outcome) (u : Unit {0}) → Ok u ≡ judged x → o ≡ otherwise x o
 no_fault None o u e = refl
 no_fault (Some f) o u e = absurd (let z : ◌≡◌ {A = ℕ} 0 1 = cc in omega arith)
 
 -- a sheet that is not too long is judged by its lines
-pub by_lines : (slots : ℕ) (input : List ℕ) (u : Unit {0}) → Ok u ≡ judged (length_fault input) → over (min 4000 slots) 1 start (lines input) ≡ sheet_of slots input
-by_lines slots input u e = no_fault (length_fault input) _ u e
+pub by_lines : (n : ℕ) (input : List ℕ) (u : Unit {0}) → Ok u ≡ judged (length_fault input) → over (min 4000 n) 1 start (lines input) ≡ sheet_of n input
+by_lines n input u e = no_fault (length_fault input) _ u e

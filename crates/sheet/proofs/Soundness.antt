@@ -6,7 +6,8 @@ use Rattle.faults.specs.declared.layers.SheetFault.{SheetFault}
 use Rattle.faults.specs.declared.layers.SourceFault.{SourceFault}
 use Rattle.faults.specs.declared.layers.SourceFault.TheVariants.{TooManyOffers}
 use Rattle.sources.specs.declared.offer.Offer.{Offer as Listed}
-use Rattle.faults.specs.Checks.{or_else, unless}
+use Rattle.faults.specs.Checks.{unless}
+use Rattle.faults.proofs.Judged.{or_else_none}
 use Rattle.sources.specs.Lists.{size_fault, list_fault}
 use Rattle.coarse.specs.Ratios.{ratio_fault}
 use Rattle.forms.specs.declared.form.Form.{Form}
@@ -46,13 +47,9 @@ judge_good most line s (Some f) g = accept_good most line s f g
 abbrev Fine : Outcome → Type 0
 Fine o = IfOk o.answer (λ s. Sound s o.taken)
 
-or_none : {E : Type 0} (a b : Option E) → or_else a b ≡ None → (a ≡ None) × (b ≡ None)
-or_none None b e = (refl, e)
-or_none (Some f) b e = absurd (let z : ◌≡◌ {A = ℕ} 0 1 = cc in omega arith)
-
 few_from : (n : ℕ) (os : List Listed) → list_fault n os ≡ None → length os ≤ 4000
 few_from n os e =
-    let room : unless (leb (length os) 4000) (TooManyOffers 4000) ≡ None = (or_none (unless (leb (length os) 4000) (TooManyOffers 4000)) _ (or_none (size_fault n) _ e).1).0 in
+    let room : unless (leb (length os) 4000) (TooManyOffers 4000) ≡ None = (or_else_none (unless (leb (length os) 4000) (TooManyOffers 4000)) _ (or_else_none (size_fault n) _ e).1).0 in
     ⊎_elim (leb-true (length os) 4000) (λ h. absurd (let full : unless (leb (length os) 4000) (TooManyOffers 4000) ≡ Some (TooManyOffers 4000) = ap (λ b. cond b None (Some (TooManyOffers 4000))) h in let z : ◌≡◌ {A = ℕ} 0 1 = cc in omega arith)) (cases_Bool (leb (length os) 4000))
 
 finish_fine : (line : ℕ) (s : Stage) → Good s → Fine (record { answer = finish line s; taken = offers_in s })

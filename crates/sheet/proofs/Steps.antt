@@ -11,7 +11,8 @@ use Rattle.forms.specs.declared.form.Form.TheVariants.{Offer}
 use Rattle.sheet.specs.declared.reader.Sheet.{Sheet}
 use Rattle.sheet.specs.declared.reader.State.{State}
 use Rattle.sheet.specs.declared.reader.State.TheVariants.{Body}
-use Rattle.sheet.specs.Readers.{stage_of, count, told, settled}
+use Rattle.sheet.specs.Counts.{count}
+use Rattle.sheet.specs.Readers.{stage_of, told, settled}
 use Rattle.sheet.specs.Sheets.{Stage, listing, unless_fault, room_fault, accept}
 
 -- a check of room that found some

@@ -1,3 +1,4 @@
+pub mod Counts
 pub mod Lines
 pub mod Readers
 pub mod Sheets

@@ -7,6 +7,7 @@ use Rattle.sheet.specs.declared.reader.Reader.{Reader}
 use Rattle.sheet.specs.declared.reader.State.{State}
 use Rattle.sheet.specs.declared.reader.State.TheVariants.{Frame, Coarse, Body}
 use Rattle.forms.specs.Forms.{form}
+use Rattle.sheet.specs.Counts.{count}
 use Rattle.sheet.specs.Lines.{lines}
 use Rattle.sheet.specs.Sheets.{Stage, start, framed, listing, accept, judge, Outcome, over}
 
@@ -14,12 +15,6 @@ abbrev pub stage_of : State → List Listed → Stage
 stage_of Frame slots = start
 stage_of (Coarse n k) slots = framed n k
 stage_of (Body s) slots = listing s.members s.k s.x s.whole (take s.offers slots)
-
--- how many slots are in use
-abbrev pub count : State → ℕ
-count Frame = 0
-count (Coarse n k) = 0
-count (Body s) = s.offers
 
 abbrev pub slots_in : Reader → List Listed
 slots_in r = r.slots.now
@@ -29,10 +24,6 @@ stage_at r = stage_of r.state (slots_in r)
 
 abbrev pub most_at : Reader → ℕ
 most_at r = min 4000 (length (slots_in r))
-
--- the slots in use are there
-abbrev pub Within : Reader → Type 0
-Within r = count r.state ≤ length (slots_in r)
 
 -- what becomes of a form, and of a line
 abbrev pub accepted : Reader → Form → Result Stage Fault
@@ -64,6 +55,5 @@ pub record Moves (r : Reader) (step : Result Stage Fault) (answer : Result (Unit
   pub same : answer ≡ told step
   pub stage : stage_at r' ≡ settled (stage_at r) step
   pub used : count r.state ≤ count r'.state
-  pub within : Within r'
   pub long : length (slots_in r') ≡ length (slots_in r)
   pub rest : drop (count r'.state) (slots_in r') ≡ drop (count r'.state) (slots_in r)

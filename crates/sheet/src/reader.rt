@@ -1,9 +1,8 @@
 // The reader takes a sheet line by line: one frame, one coarse, then the offers.
 ghost use Rattle.std.specs.Prelude.{◌≡◌, ◌+◌, ◌≤◌, length, is_ok, IfOk, if◌then◌else◌};
 ghost use Rattle.faults.specs.Checks.{judged};
-ghost use Rattle.sheet.specs.Lines.{first_length};
 ghost use Rattle.sheet.specs.Sheets.{room_fault, length_fault, finish, sheet_of, placed, Sound};
-ghost use Rattle.sheet.specs.Readers.{slots_in, most_at, stage_at, accepted, judged_line, outcome_at, Within, Lent, Moves};
+ghost use Rattle.sheet.specs.Counts.{count};
 
 use faults::fault::Fault;
 use faults::layers::{SheetFault, SourceFault};
@@ -26,7 +25,7 @@ pub struct Sheet {
 }
 
 // What comes next; the sheet of a body counts the offers so far.
-#[derive(Clone, Copy)]
+#[derive(Clone, Copy, PartialEq, Eq, Debug)]
 enum State {
     Frame,
     Coarse { members: u32, k: u32 },
@@ -38,9 +37,12 @@ struct Reader<'a> {
     slots: &'a mut [Offer],
     line: usize,
     state: State,
+    ghost within: { count state ≤ length slots.now },
 }
 
 impl Reader<'_> {
+    ghost use Rattle.sheet.specs.Readers.{slots_in, most_at, stage_at, accepted, judged_line, outcome_at, Lent, Moves};
+
     // Whether there is room for one offer more.
     fn check_room(&self, used: usize) -> Result<(), SourceFault>
         ensures { result ≡ judged (room_fault (most_at self.now) used) }
@@ -54,7 +56,6 @@ impl Reader<'_> {
 
     // Takes a form, if it may come here.
     fn accept(&mut self, form: Form) -> Result<(), Fault>
-        requires { Within self.old }
         ensures step { Moves self.old (accepted self.old form) result self.new }
         ensures line { self.new.line ≡ self.old.line }
     {
@@ -81,15 +82,14 @@ impl Reader<'_> {
                     ..sheet
                 })
             }
-            _ => return Err(Fault::from(SheetFault::BadForm(self.line))),
+            _ => return Err(SheetFault::BadForm(self.line).into()),
         };
         Ok(())
     }
 
     // Takes a line with its line feed.
     fn take_line(&mut self, text: &[u8]) -> Result<(), Fault>
-        requires within { Within self.old }
-        requires few { self.old.line ≤ 65536 }
+        requires { self.old.line ≤ 65536 }
         ensures step { Moves self.old (judged_line self.old text.now) result self.new }
         ensures line { self.new.line ≡ (if is_ok result then self.old.line + 1 else self.old.line) }
     {
@@ -101,30 +101,24 @@ impl Reader<'_> {
 
     // What is read, where no line is left.
     fn finish(&self) -> Result<Sheet, Fault>
-        requires { Within self.now }
         ensures { result ≡ finish self.now.line (stage_at self.now) }
     {
         let State::Body(sheet) = self.state else {
-            return Err(Fault::from(SheetFault::BadForm(self.line)));
+            return Err(SheetFault::BadForm(self.line).into());
         };
-        let used = sheet.offers;
-        list_source::check(sheet.members, &self.slots[0..used])?;
+        list_source::check(sheet.members, &self.slots[..sheet.offers])?;
         Ok(sheet)
     }
 
     // Takes the lines of a text, to its end.
     fn read_lines(&mut self, text: &[u8]) -> Result<Sheet, Fault>
-        requires within { Within self.old }
-        requires few { self.old.line + length text.now ≤ 65536 }
+        requires { self.old.line + length text.now ≤ 65536 }
         ensures answer { result ≡ (outcome_at self.old text.now).answer }
         ensures lent { Lent self.old self.new }
         ensures taken { slots_in self.new ≡ placed (outcome_at self.old text.now).taken (slots_in self.old) }
     {
-        let mut rest = text;
-        while !rest.is_empty() {
-            let (line, after) = rest.split_at(line_len(rest));
+        for line in text.split_inclusive(|b| *b == b'\n') {
             self.take_line(line)?;
-            rest = after;
         }
         self.finish()
     }
@@ -137,18 +131,6 @@ fn check_length(input: &[u8]) -> Result<(), SheetFault>
         return Err(SheetFault::TooLong);
     }
     Ok(())
-}
-
-// The length of the first line, with its line feed.
-fn line_len(text: &[u8]) -> usize
-    ensures { result ≡ first_length text.now }
-{
-    for (i, b) in text.iter().enumerate() {
-        if *b == b'\n' {
-            return i + 1;
-        }
-    }
-    text.len()
 }
 
 // Reads a sheet. Its offers go into the slots, from the front.

@@ -1,4 +1,5 @@
 // Frames of lengths, what two members save, and what is refused.
+use crate::asked::{refusal, row, sizes, told};
 use coarse::Coarse;
 use faults::code::Code;
 use lengths::length_source::LengthSource;
@@ -8,38 +9,17 @@ use stock::saving;
 
 const STOCK: [u32; 3] = [3000, 4000, 6000];
 
-fn refusal(number: u32, place: usize) -> Option<Code> {
-    Some(Code {
-        layer: 2,
-        number,
-        place,
-    })
-}
-
-fn told(lengths: &[u32], stock: &[u32], cut: u32) -> Option<Code> {
-    match cutlist::check(lengths, stock, cut) {
-        Ok(()) => None,
-        Err(fault) => Some(fault.code()),
-    }
-}
-
-// Members, offers, top.
-fn sizes<S: Source>(s: &S) -> (usize, usize, u32) {
-    (s.members(), s.offers(), s.top())
-}
-
-fn row<S: Source>(s: &S, e: usize) -> (u32, u32, u32, u32) {
-    let (first, second) = s.ends(e);
-    (first, second, s.shown(e), s.ground(e))
+fn checked(lengths: &[u32], stock: &[u32], cut: u32) -> Option<Code> {
+    told(cutlist::check(lengths, stock, cut))
 }
 
 #[test]
 fn refusals(rt: HostRuntime) {
     let counts = [
-        told(&[1; 89], &STOCK, 20),
-        told(&[0; 90], &[], 21),
-        told(&[0; 89], &[], 21),
-        told(
+        checked(&[1; 89], &STOCK, 20),
+        checked(&[0; 90], &[], 21),
+        checked(&[0; 89], &[], 21),
+        checked(
             &[0; 2],
             &[6, 5, 4, 3, 2, 1, 0, 0, 0, 0, 0, 0, 0, 0, 0, 0, 0],
             21,
@@ -50,20 +30,20 @@ fn refusals(rt: HostRuntime) {
         [None, refusal(11, 90), refusal(15, 0), refusal(15, 16)]
     );
     let stock = [
-        told(&[0], &[50_001], 21),
-        told(&[0], &[3000, 4000, 4000], 21),
-        told(&[1], &[0, 50_000], 0),
-        told(&[0], &[0], 21),
+        checked(&[0], &[50_001], 21),
+        checked(&[0], &[3000, 4000, 4000], 21),
+        checked(&[1], &[0, 50_000], 0),
+        checked(&[0], &[0], 21),
     ];
     assert_eq!(rt;
         stock,
         [refusal(15, 0), refusal(15, 2), None, refusal(16, 0)]
     );
     let lengths = [
-        told(&[6000, 6001, 0], &STOCK, 21),
-        told(&[6000, 1, 0], &STOCK, 0),
-        told(&[6000, 1], &STOCK, 21),
-        told(&[], &STOCK, 20),
+        checked(&[6000, 6001, 0], &STOCK, 21),
+        checked(&[6000, 1, 0], &STOCK, 0),
+        checked(&[6000, 1], &STOCK, 21),
+        checked(&[], &STOCK, 20),
     ];
     assert_eq!(rt;
         lengths,

@@ -1,54 +1,20 @@
 // Lists of offers, coarse layers over them, and what is refused.
+use crate::asked::{refusal, row, sizes, told};
 use coarse::Coarse;
-use faults::code::Code;
-use faults::layers::SourceFault;
 use sources::list_source;
 use sources::list_source::ListSource;
 use sources::offer::Offer;
 use sources::pile::most_more;
 use sources::source::Source;
 
-fn offer(first: u32, second: u32, saving: u32) -> Offer {
-    Offer {
-        first,
-        second,
-        saving,
-    }
-}
-
-fn refusal(number: u32, place: usize) -> Option<Code> {
-    Some(Code {
-        layer: 2,
-        number,
-        place,
-    })
-}
-
-fn told(judged: Result<(), SourceFault>) -> Option<Code> {
-    match judged {
-        Ok(()) => None,
-        Err(fault) => Some(fault.code()),
-    }
-}
-
-// Members, offers, top.
-fn sizes<S: Source>(s: &S) -> (usize, usize, u32) {
-    (s.members(), s.offers(), s.top())
-}
-
-// First member, second member, shown and ground of the first four offers.
+// Of the first four offers.
 fn rows<S: Source>(s: &S) -> [(u32, u32, u32, u32); 4] {
-    [row(s, 0), row(s, 1), row(s, 2), row(s, 3)]
-}
-
-fn row<S: Source>(s: &S, e: usize) -> (u32, u32, u32, u32) {
-    let (first, second) = s.ends(e);
-    (first, second, s.shown(e), s.ground(e))
+    [0, 1, 2, 3].map(|e| row(s, e))
 }
 
 #[test]
 fn refusals(rt: HostRuntime) {
-    let good = offer(0, 199, 100_000);
+    let good = Offer::new(0, 199, 100_000);
     let sizes = [
         told(list_source::check_size(200)),
         told(list_source::check_size(201)),
@@ -67,16 +33,16 @@ fn refusals(rt: HostRuntime) {
         ]
     );
     let bad = [
-        offer(0, 1, 100_001),
-        offer(2, 0, 1),
-        offer(1, 1, 1),
-        offer(0, 3, 1),
+        Offer::new(0, 1, 100_001),
+        Offer::new(2, 0, 1),
+        Offer::new(1, 1, 1),
+        Offer::new(0, 3, 1),
     ];
     let offers = [
         told(list_source::check(2, &bad)),
         told(list_source::check(3, &bad)),
         told(list_source::check(3, &bad[3..])),
-        told(list_source::check(3, &bad[0..2])),
+        told(list_source::check(3, &bad[..2])),
     ];
     assert_eq!(rt;
         offers,
@@ -102,7 +68,11 @@ fn refusals(rt: HostRuntime) {
 
 #[test]
 fn pile(rt: HostRuntime) {
-    let offers = [offer(0, 1, 1000), offer(3, 2, 999), offer(4, 5, 57)];
+    let offers = [
+        Offer::new(0, 1, 1000),
+        Offer::new(3, 2, 999),
+        Offer::new(4, 5, 57),
+    ];
     let list = ListSource::new(6, &offers);
     assert_eq!(rt; sizes(&list), (6, 3, 1000));
     assert_eq!(rt;
@@ -132,7 +102,11 @@ fn pile(rt: HostRuntime) {
 
 #[test]
 fn makings(rt: HostRuntime) {
-    let offers = [offer(0, 1, 99), offer(0, 1, 100), offer(0, 1, 199)];
+    let offers = [
+        Offer::new(0, 1, 99),
+        Offer::new(0, 1, 100),
+        Offer::new(0, 1, 199),
+    ];
     let metres = Coarse::new(ListSource::new(2, &offers), 1000, 100_000);
     assert_eq!(rt;
         [metres.shown(0), metres.shown(1), metres.shown(2)],

@@ -1,11 +1,11 @@
 -- A list of offers that nothing stands against keeps the laws of a source. The proof stands here, since `laws` of the source is this term.
 -- Assumes nothing.
-use Rattle.std.specs.Prelude.{◌≡◌, ℕ, zero, suc, ◌+◌, ◌*◌, ◌/◌, ◌<◌, ◌≤◌, Bool, true, false, cond, List, [], ◌∷◌, length, get_or, is_some, Some, None, Option, ◌==◌, nat_le, nat_lt, slice_index_or, refl}
+use Rattle.std.specs.Prelude.{◌≡◌, ℕ, zero, suc, ◌+◌, ◌*◌, ◌/◌, ◌<◌, ◌≤◌, Bool, true, false, List, [], ◌∷◌, length, get_or, is_some, None, Option, ◌==◌, nat_le, nat_lt, slice_index_or, refl}
 use Rattle.std.proofs.Common.{ap, mul-le-mul, arith}
 use Rattle.std.proofs.Math.Path.{fun_ext}
 use Rattle.std.proofs.lemmas.List.{length-map}
 use Rattle.std.specs.Option.{option_map}
-use Rattle.std.proofs.lemmas.Bool.{true≢false, and_parts, not-true, ltb-true, leb-true, eqb-false}
+use Rattle.std.proofs.lemmas.Bool.{and_parts, not-true, ltb-true, leb-true, eqb-false}
 use Rattle.faults.specs.declared.layers.SourceFault.{SourceFault}
 use Rattle.faults.specs.declared.layers.SourceFault.TheVariants.{TooManyMembers, TooManyOffers, BadMember, HighSaving}
 use Rattle.matching.specs.Rows.{row, AllSound}
@@ -14,6 +14,7 @@ use Rattle.matching.specs.Sums.{total}
 use Rattle.matching.specs.Lawful.{Lawful, Carries}
 use Rattle.matching.proofs.Pairs.{shown_most}
 use Rattle.faults.specs.Checks.{or_else, unless}
+use Rattle.faults.proofs.Judged.{not_some, or_else_none, unless_none, none_mapped, none_here}
 use Rattle.sources.specs.Lists.{no_offer, names, modest, first_bad, size_fault, list_fault}
 use Rattle.sources.specs.ListRows.{list_row, list_rows, largest_saving, list_carry}
 use Rattle.sources.specs.declared.offer.Offer.{Offer}
@@ -22,31 +23,10 @@ use Rattle.sources.specs.declared.offer.Offer.{Offer}
 pub most_low : (n top : ℕ) → n ≤ 200 → top ≤ 100000 → n / 2 * top ≤ 10000000
 most_low n top few low = let half : n / 2 ≤ 100 = omega arith in let h : n / 2 * top ≤ 100 * 100000 = mul-le-mul half low in h
 
--- where no fault is found, each test passed
-neither : {E : Type 0} (f g : Option E) → or_else f g ≡ None → (f ≡ None) × (g ≡ None)
-neither None g e = (refl, e)
-neither (Some f) g e = let z : ◌≡◌ {A = ℕ} 0 1 = cc in absurd (omega arith)
-
-not_some : {E : Type 0} (f : Option E) → is_some f ≡ false → f ≡ None
-not_some None e = refl
-not_some (Some f) e = absurd (true≢false e)
-
-passed : {E : Type 0} (b : Bool) (f : E) → unless b f ≡ None → b ≡ true
-passed true f e = refl
-passed false f e = let z : ◌≡◌ {A = ℕ} 0 1 = cc in absurd (omega arith)
-
-none_mapped : {X E : Type 0} (F : X → E) (o : Option X) → option_map F o ≡ None → o ≡ None
-none_mapped F None e = refl
-none_mapped F (Some x) e = let z : ◌≡◌ {A = ℕ} 0 1 = cc in absurd (omega arith)
-
-here : (b : Bool) (r : Option ℕ) (i : ℕ) → cond b r (Some i) ≡ None → (b ≡ true) × (r ≡ None)
-here true r i e = (refl, e)
-here false r i e = let z : ◌≡◌ {A = ℕ} 0 1 = cc in absurd (omega arith)
-
 each_passed : (ok : Offer → Bool) (i : ℕ) (os : List Offer) → first_bad ok i os ≡ None → (e : ℕ) → e < length os → ok (slice_index_or os e no_offer) ≡ true
 each_passed ok i [] h e l = absurd (omega arith)
-each_passed ok i (o ∷ os) h zero l = (here (ok o) (first_bad ok (i + 1) os) i h).0
-each_passed ok i (o ∷ os) h (suc e) l = each_passed ok (i + 1) os (here (ok o) (first_bad ok (i + 1) os) i h).1 e (omega arith)
+each_passed ok i (o ∷ os) h zero l = (none_here (ok o) (first_bad ok (i + 1) os) i h).0
+each_passed ok i (o ∷ os) h (suc e) l = each_passed ok (i + 1) os (none_here (ok o) (first_bad ok (i + 1) os) i h).1 e (omega arith)
 
 -- the rows of a list
 pub row_listed : (os : List Offer) (e : ℕ) → row (list_rows os) e ≡ list_row (slice_index_or os e no_offer)
@@ -80,19 +60,19 @@ module _ (n : ℕ) (os : List Offer) (sound : is_some (list_fault n os) ≡ fals
 
   listed_few : n ≤ 200
   listed_few =
-      let h = (neither (size_fault n) (or_else offers_fault (or_else members_fault savings_fault)) (not_some (list_fault n os) sound)).0 in
-      leb-true n 200 (passed (nat_le n 200) (TooManyMembers n) h)
+      let h = (or_else_none (size_fault n) (or_else offers_fault (or_else members_fault savings_fault)) (not_some (list_fault n os) sound)).0 in
+      leb-true n 200 (unless_none (nat_le n 200) (TooManyMembers n) h)
 
   after_size : or_else offers_fault (or_else members_fault savings_fault) ≡ None
-  after_size = (neither (size_fault n) (or_else offers_fault (or_else members_fault savings_fault)) (not_some (list_fault n os) sound)).1
+  after_size = (or_else_none (size_fault n) (or_else offers_fault (or_else members_fault savings_fault)) (not_some (list_fault n os) sound)).1
 
   listed_short : length os ≤ 4000
   listed_short =
-      let h = (neither offers_fault (or_else members_fault savings_fault) after_size).0 in
-      leb-true (length os) 4000 (passed (nat_le (length os) 4000) (TooManyOffers 4000) h)
+      let h = (or_else_none offers_fault (or_else members_fault savings_fault) after_size).0 in
+      leb-true (length os) 4000 (unless_none (nat_le (length os) 4000) (TooManyOffers 4000) h)
 
   no_offer_fault : (members_fault ≡ None) × (savings_fault ≡ None)
-  no_offer_fault = neither members_fault savings_fault (neither offers_fault (or_else members_fault savings_fault) after_size).1
+  no_offer_fault = or_else_none members_fault savings_fault (or_else_none offers_fault (or_else members_fault savings_fault) after_size).1
 
   saving_low : (e : ℕ) → e < length os → (get_or os e no_offer).saving ≤ 100000
   saving_low e l =

@@ -1,6 +1,8 @@
 // A list of offers as a source: shown and ground are the saving.
 ghost use Rattle.std.specs.Prelude.{◌≡◌, false, [], is_some};
+ghost use Rattle.std.specs.Option.{option_map};
 ghost use Rattle.matching.specs.Rows.{row};
+ghost use Rattle.faults.specs.declared.layers.SourceFault.TheVariants.{BadMember, HighSaving};
 ghost use Rattle.faults.specs.Checks.{judged, unless_fault};
 ghost use Rattle.sources.specs.Lists.{names, modest, first_bad, size_fault, list_fault};
 ghost use Rattle.sources.specs.ListLaws.{list_laws};
@@ -24,28 +26,29 @@ pub struct ListSource<'a> {
     ghost high: { top ≡ largest_saving offers.now },
 }
 
-// The first offer that names a member that is not there, or one member twice.
-fn bad_member(n: u32, offers: &[Offer]) -> Option<usize>
-    ensures { result ≡ first_bad (names n) 0 offers.now }
+// Whether each offer names two members, and both are there.
+// Here and below a loop with the offer's number stops at the first offender.
+fn check_members(n: u32, offers: &[Offer]) -> Result<(), SourceFault>
+    ensures { result ≡ judged (option_map BadMember (first_bad (names n) 0 offers.now)) }
 {
     for (i, o) in offers.iter().enumerate() {
         if o.first >= n || o.second >= n || o.first == o.second {
-            return Some(i);
+            return Err(SourceFault::BadMember(i));
         }
     }
-    None
+    Ok(())
 }
 
-// The first offer with too high a saving.
-fn high_saving(offers: &[Offer]) -> Option<usize>
-    ensures { result ≡ first_bad modest 0 offers.now }
+// Whether no offer has too high a saving.
+fn check_savings(offers: &[Offer]) -> Result<(), SourceFault>
+    ensures { result ≡ judged (option_map HighSaving (first_bad modest 0 offers.now)) }
 {
     for (i, o) in offers.iter().enumerate() {
         if o.saving > 100_000 {
-            return Some(i);
+            return Err(SourceFault::HighSaving(i));
         }
     }
-    None
+    Ok(())
 }
 
 // Whether a source may have so many members.
@@ -66,24 +69,15 @@ pub fn check(n: u32, offers: &[Offer]) -> Result<(), SourceFault>
     if offers.len() > MOST_OFFERS {
         return Err(SourceFault::TooManyOffers(MOST_OFFERS));
     }
-    if let Some(e) = bad_member(n, offers) {
-        return Err(SourceFault::BadMember(e));
-    }
-    if let Some(e) = high_saving(offers) {
-        return Err(SourceFault::HighSaving(e));
-    }
-    Ok(())
+    check_members(n, offers)?;
+    check_savings(offers)
 }
 
 // The largest saving, or 0.
 fn largest(offers: &[Offer]) -> u32
     ensures { result ≡ largest_saving offers.now }
 {
-    let mut top = 0;
-    for o in offers {
-        top = o.saving.max(top);
-    }
-    top
+    offers.iter().map(|o| o.saving).max().unwrap_or(0)
 }
 
 impl<'a> ListSource<'a> {
@@ -91,14 +85,7 @@ impl<'a> ListSource<'a> {
     fn offer(&self, number: usize) -> Offer
         ensures { list_row result ≡ row (list_rows self.now.offers.now) number }
     {
-        match self.offers.get(number) {
-            Some(offer) => *offer,
-            None => Offer {
-                first: 0,
-                second: 0,
-                saving: 0,
-            },
-        }
+        self.offers.get(number).copied().unwrap_or_default()
     }
 
     // The source of these offers, or of none among no members where `check` refuses them.
@@ -145,6 +132,7 @@ impl Source for ListSource<'_> {
         self.top
     }
 
+    // One line, as for a list of lengths: each source states the law of its own savings.
     fn carry(&self, s: u64) -> u64 {
         s.min(most_shown(self.n, self.top))
     }

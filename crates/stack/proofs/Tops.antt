@@ -1,5 +1,5 @@
 -- The top of a stack. Assumes nothing.
-use Rattle.std.proofs.Common.{◌≡◌, ℕ, ◌+◌, ◌-◌, ◌<◌, ◌≤◌, List, [], ◌∷◌, reverse, length, get_or, take, set, ap, ◌∙◌, arith}
+use Rattle.std.proofs.Common.{◌≡◌, ℕ, ◌+◌, ◌<◌, ◌≤◌, List, [], ◌∷◌, reverse, length, get_or, take, set, ap, ◌∙◌}
 use Rattle.std.proofs.lemmas.List.{length-reverse, length-take-le, reverse-append, take_more, take_more_set}
 use Rattle.stack.specs.Items.{items}
 
@@ -11,7 +11,5 @@ pub items_push : {A : Type 0} (xs : List A) (i : ℕ) (y : A) → i < length xs 
 items_push xs i y l = ap reverse (take_more_set xs i y l) ∙ reverse-append (take i xs) (y ∷ [])
 
 -- one item less
-pub items_pop : {A : Type 0} (xs : List A) (n : ℕ) (d : A) → 0 < n → n ≤ length xs → items xs n ≡ (get_or xs (n - 1) d ∷ items xs (n - 1))
-items_pop xs n d p l =
-    let e : n ≡ n - 1 + 1 = omega arith in
-    ap (items xs) e ∙ ap reverse (take_more xs (n - 1) d (omega arith)) ∙ reverse-append (take (n - 1) xs) (get_or xs (n - 1) d ∷ [])
+pub items_pop : {A : Type 0} (xs : List A) (n : ℕ) (d : A) → n < length xs → items xs (n + 1) ≡ (get_or xs n d ∷ items xs n)
+items_pop xs n d l = ap reverse (take_more xs n d l) ∙ reverse-append (take n xs) (get_or xs n d ∷ [])

@@ -1,4 +1,5 @@
-// A stack over slots that are handed in. It holds no more than there are slots.
+// A stack over slots that are handed in, with how many of them are in use: whoever makes one says how much room it has,
+// and nothing here wants memory.
 ghost use Rattle.std.specs.Prelude.{◌≡◌, ◌≤◌, cond, [], ◌∷◌, length, nat_lt};
 ghost use Rattle.faults.specs.Checks.{judged, unless};
 ghost use Rattle.faults.specs.declared.layers.StackFault.TheVariants.{Full};
@@ -28,8 +29,8 @@ impl<'a, T: Copy> Stack<'a, T> {
         ensures field { result ≡ self.now.len }
         ensures value { result ≡ length (items self.now.slots.now self.now.len) }
     {
-        let Stack { len, .. } = self;
-        *len
+        // Each slot in use holds one.
+        self.len
     }
 
     // Puts an item on top, or changes nothing where every slot is taken.
@@ -55,10 +56,7 @@ impl<'a, T: Copy> Stack<'a, T> {
         ensures items { items self.new.slots.now self.new.len ≡ below (items self.old.slots.now self.old.len) }
         ensures slots { self.new.slots.now ≡ self.old.slots.now }
     {
-        if self.len == 0 {
-            return None;
-        }
-        self.len -= 1;
+        self.len = self.len.checked_sub(1)?;
         Some(self.slots[self.len])
     }
 }

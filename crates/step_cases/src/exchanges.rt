@@ -1,5 +1,5 @@
 // Augments, and lists of offers that are none.
-use crate::scripts::{Line, offer, play};
+use crate::scripts::{Line, play};
 use board::board::Board;
 use coarse::Coarse;
 use sources::list_source::ListSource;
@@ -9,17 +9,17 @@ use std::test::Fail;
 // Six members in a line, each of whom may pair with the next.
 fn line() -> [Offer; 5] {
     [
-        offer(0, 1, 4),
-        offer(1, 2, 4),
-        offer(2, 3, 4),
-        offer(3, 4, 4),
-        offer(4, 5, 4),
+        Offer::new(0, 1, 4),
+        Offer::new(1, 2, 4),
+        Offer::new(2, 3, 4),
+        Offer::new(3, 4, 4),
+        Offer::new(4, 5, 4),
     ]
 }
 
 #[test]
 fn one_pair(rt: HostRuntime) -> Result<(), Fail> {
-    let offers = [offer(1, 0, 4)];
+    let offers = [Offer::new(1, 0, 4)];
     let mut board = Board::new(ListSource::new(2, &offers));
     let script = [
         Line::NoAugment(0, &[0], 21, 0),
@@ -137,7 +137,11 @@ fn long_lists(rt: HostRuntime) -> Result<(), Fail> {
 // Round the triangle the walk comes back to a root that it has used.
 #[test]
 fn round_a_triangle(rt: HostRuntime) -> Result<(), Fail> {
-    let offers = [offer(0, 1, 4), offer(0, 2, 4), offer(1, 2, 4)];
+    let offers = [
+        Offer::new(0, 1, 4),
+        Offer::new(0, 2, 4),
+        Offer::new(1, 2, 4),
+    ];
     let mut board = Board::new(ListSource::new(3, &offers));
     let script = [
         Line::Begin(1),
@@ -154,10 +158,10 @@ fn round_a_triangle(rt: HostRuntime) -> Result<(), Fail> {
 #[test]
 fn parallel_offers(rt: HostRuntime) -> Result<(), Fail> {
     let offers = [
-        offer(0, 1, 40),
-        offer(0, 1, 49),
-        offer(2, 0, 41),
-        offer(1, 3, 42),
+        Offer::new(0, 1, 40),
+        Offer::new(0, 1, 49),
+        Offer::new(2, 0, 41),
+        Offer::new(1, 3, 42),
     ];
     let mut board = Board::new(Coarse::new(ListSource::new(4, &offers), 1, 10));
     let script = [

@@ -1,5 +1,5 @@
 // Blossoms inside blossoms.
-use crate::scripts::{Line, offer, play};
+use crate::scripts::{Line, play};
 use board::board::Board;
 use sources::list_source::ListSource;
 use sources::offer::Offer;
@@ -8,18 +8,18 @@ use std::test::Fail;
 // Members 0, 1 and 2 in a ring; it, 3 and 4 in a second; that, 5 and 6 in a third. Then a stem of 2 and 7, and the loose members 8 and 9.
 fn nest() -> [Offer; 12] {
     [
-        offer(2, 0, 5),
-        offer(0, 1, 7),
-        offer(1, 2, 7),
-        offer(2, 3, 6),
-        offer(3, 4, 7),
-        offer(4, 0, 7),
-        offer(3, 5, 7),
-        offer(5, 6, 7),
-        offer(6, 2, 7),
-        offer(2, 7, 7),
-        offer(7, 8, 7),
-        offer(9, 6, 6),
+        Offer::new(2, 0, 5),
+        Offer::new(0, 1, 7),
+        Offer::new(1, 2, 7),
+        Offer::new(2, 3, 6),
+        Offer::new(3, 4, 7),
+        Offer::new(4, 0, 7),
+        Offer::new(3, 5, 7),
+        Offer::new(5, 6, 7),
+        Offer::new(6, 2, 7),
+        Offer::new(2, 7, 7),
+        Offer::new(7, 8, 7),
+        Offer::new(9, 6, 6),
     ]
 }
 

@@ -1,13 +1,14 @@
 // A sequence of steps and questions as a list, each with what the board has to answer.
-use crate::looks::{look_at, same};
+use crate::looks::look_at;
 use board::board::Board;
 use faults::code::Code;
 use faults::layers::BoardFault;
-use sources::offer::Offer;
 use sources::source::Source;
+use std::fmt::Debug;
 use std::process::Abort;
 use std::test::Fail;
 
+// Data, since a script stands in each test as it is read, and one place says what a line asks.
 #[derive(Clone, Copy)]
 pub(crate) enum Line<'a> {
     // Steps that are made; an adjust so many times.
@@ -36,34 +37,46 @@ pub(crate) enum Line<'a> {
     NoMember(usize),
 }
 
-pub(crate) fn offer(first: u32, second: u32, saving: u32) -> Offer {
-    Offer {
-        first,
-        second,
-        saving,
-    }
+// In each crate of tests its own: it ends a test, which no library may.
+fn refused<T: Drop>(rt: &impl Abort, answer: Result<T, BoardFault>, number: u32, place: usize) {
+    let told = answer.err().map(Code::from);
+    let expected = Code {
+        layer: 3,
+        number,
+        place,
+    };
+    assert_eq!(rt; told, Some(expected));
 }
 
-fn refused<T: Drop>(
+// A step that is refused, and leaves the board what it was.
+fn stays<S: Source + Drop, T: Drop, F: FnOnce(&mut Board<S>) -> Result<T, BoardFault>>(
     rt: &impl Abort,
-    answer: Result<T, BoardFault>,
+    board: &mut Board<S>,
+    step: F,
     number: u32,
     place: usize,
-) -> Result<(), Fail> {
-    match answer {
-        Ok(_) => Err(Fail::new("not refused")),
-        Err(fault) => {
-            assert_eq!(rt;
-                fault.code(),
-                Code {
-                    layer: 3,
-                    number,
-                    place,
-                }
-            );
-            Ok(())
-        },
+)
+    requires { F.IsAlwaysCallable step }
+{
+    let before = look_at(board);
+    refused(rt, step(board), number, place);
+    assert_eq!(rt; look_at(board), before);
+}
+
+// What each member answers to a question.
+fn answers_are<T: Copy + PartialEq + Debug + Drop, F: Fn(usize) -> Result<T, BoardFault>>(
+    rt: &impl Abort,
+    members: usize,
+    question: F,
+    answers: &[T],
+) -> Result<(), Fail>
+    requires { F.IsAlwaysCallable question }
+{
+    assert_eq!(rt; members, answers.len());
+    for (member, answer) in answers.iter().enumerate() {
+        assert_eq!(rt; question(member)?, *answer);
     }
+    Ok(())
 }
 
 fn adjust<S: Source + Drop>(
@@ -77,75 +90,29 @@ fn adjust<S: Source + Drop>(
     Ok(())
 }
 
-fn prices_are<S: Source + Drop>(
-    rt: &impl Abort,
-    board: &Board<S>,
-    prices: &[u32],
-) -> Result<(), Fail> {
-    assert_eq!(rt; board.members(), prices.len());
-    for (member, price) in prices.iter().enumerate() {
-        assert_eq!(rt; board.price(member)?, *price);
-    }
-    Ok(())
-}
-
-fn partners_are<S: Source + Drop>(
-    rt: &impl Abort,
-    board: &Board<S>,
-    partners: &[Option<u32>],
-) -> Result<(), Fail> {
-    assert_eq!(rt; board.members(), partners.len());
-    for (member, partner) in partners.iter().enumerate() {
-        assert_eq!(rt; board.partner(member)?, *partner);
-    }
-    Ok(())
-}
-
-fn roots_are<S: Source + Drop>(
-    rt: &impl Abort,
-    board: &Board<S>,
-    roots: &[usize],
-) -> Result<(), Fail> {
-    assert_eq!(rt; board.members(), roots.len());
-    for (member, root) in roots.iter().enumerate() {
-        assert_eq!(rt; board.root(member)?, *root);
-    }
-    Ok(())
-}
-
 fn ring_is<S: Source + Drop>(
     rt: &impl Abort,
     board: &Board<S>,
     node: usize,
     price: u32,
     ring: &[(u16, u16)],
-) -> Result<(), Fail> {
+) {
     assert_eq!(rt; board.blossom_price(node), Some(price));
     for (at, link) in ring.iter().enumerate() {
         assert_eq!(rt; board.link(node, at), Some(*link));
     }
     assert_eq!(rt; board.link(node, ring.len()), None);
-    Ok(())
 }
 
-fn no_blossom<S: Source + Drop>(
-    rt: &impl Abort,
-    board: &Board<S>,
-    node: usize,
-) -> Result<(), Fail> {
+fn no_blossom<S: Source + Drop>(rt: &impl Abort, board: &Board<S>, node: usize) {
     assert_eq!(rt; board.blossom_price(node), None);
     assert_eq!(rt; board.link(node, 0), None);
-    Ok(())
 }
 
-fn no_member<S: Source + Drop>(
-    rt: &impl Abort,
-    board: &Board<S>,
-    member: usize,
-) -> Result<(), Fail> {
-    refused(rt, board.price(member), 35, member)?;
-    refused(rt, board.partner(member), 35, member)?;
-    refused(rt, board.root(member), 35, member)
+fn no_member<S: Source + Drop>(rt: &impl Abort, board: &Board<S>, member: usize) {
+    refused(rt, board.price(member), 35, member);
+    refused(rt, board.partner(member), 35, member);
+    refused(rt, board.root(member), 35, member);
 }
 
 fn sums_are<S: Source + Drop>(
@@ -155,17 +122,11 @@ fn sums_are<S: Source + Drop>(
     loose: usize,
     shown: u64,
     slack: u64,
-) -> Result<(), Fail> {
+) {
     assert_eq!(rt; board.floor(), floor);
     assert_eq!(rt; board.loose(), loose);
     assert_eq!(rt; board.shown(), shown);
     assert_eq!(rt; board.slack(), slack);
-    Ok(())
-}
-
-fn made(answer: Result<(), BoardFault>) -> Result<(), Fail> {
-    answer?;
-    Ok(())
 }
 
 fn play_line<S: Source + Drop>(
@@ -173,51 +134,50 @@ fn play_line<S: Source + Drop>(
     board: &mut Board<S>,
     line: Line<'_>,
 ) -> Result<(), Fail> {
+    let members = board.members();
     match line {
-        Line::Begin(k) => made(board.begin(k)),
-        Line::Adjust(times, labels) => made(adjust(board, times, labels)),
-        Line::Augment(root, offers) => made(board.augment(root, offers)),
+        Line::Begin(k) => board.begin(k)?,
+        Line::Adjust(times, labels) => adjust(board, times, labels)?,
+        Line::Augment(root, offers) => board.augment(root, offers)?,
         Line::Shrink(root, offers, node) => {
             assert_eq!(rt; board.shrink(root, offers)?, node);
-            Ok(())
-        },
-        Line::Dissolve(node) => made(board.dissolve(node)),
+        }
+        Line::Dissolve(node) => board.dissolve(node)?,
         Line::NoAdjust(labels, number, place) => {
-            let before = look_at(board);
-            refused(rt, board.adjust(labels), number, place)?;
-            same(rt, &before, &look_at(board))
+            stays(rt, board, |board| board.adjust(labels), number, place)
         }
         Line::NoAugment(root, offers, number, place) => {
-            let before = look_at(board);
-            refused(rt, board.augment(root, offers), number, place)?;
-            same(rt, &before, &look_at(board))
+            stays(
+                rt,
+                board,
+                |board| board.augment(root, offers),
+                number,
+                place,
+            )
         }
         Line::NoShrink(root, offers, number, place) => {
-            let before = look_at(board);
-            refused(rt, board.shrink(root, offers), number, place)?;
-            same(rt, &before, &look_at(board))
+            stays(rt, board, |board| board.shrink(root, offers), number, place)
         }
         Line::NoDissolve(node, number, place) => {
-            let before = look_at(board);
-            refused(rt, board.dissolve(node), number, place)?;
-            same(rt, &before, &look_at(board))
+            stays(rt, board, |board| board.dissolve(node), number, place)
         }
-        Line::Prices(prices) => prices_are(rt, board, prices),
-        Line::Partners(partners) => partners_are(rt, board, partners),
-        Line::Roots(roots) => roots_are(rt, board, roots),
+        Line::Prices(prices) => answers_are(rt, members, |member| board.price(member), prices)?,
+        Line::Partners(partners) => {
+            answers_are(rt, members, |member| board.partner(member), partners)?
+        }
+        Line::Roots(roots) => answers_are(rt, members, |member| board.root(member), roots)?,
         Line::Sums(floor, loose, shown, slack) => sums_are(rt, board, floor, loose, shown, slack),
         Line::Ground(ground) => {
             assert_eq!(rt; board.ground(), ground);
-            Ok(())
-        },
+        }
         Line::Ring(node, price, ring) => ring_is(rt, board, node, price, ring),
         Line::NoBlossom(node) => no_blossom(rt, board, node),
         Line::IsRoot(node, root) => {
             assert_eq!(rt; board.is_root(node), root);
-            Ok(())
-        },
+        }
         Line::NoMember(member) => no_member(rt, board, member),
     }
+    Ok(())
 }
 
 pub(crate) fn play<S: Source + Drop>(

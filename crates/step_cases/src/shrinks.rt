@@ -1,13 +1,18 @@
 // Shrinks and dissolves, and rings that are none.
-use crate::scripts::{Line, offer, play};
+use crate::scripts::{Line, play};
 use board::board::Board;
 use sources::list_source::ListSource;
+use sources::offer::Offer;
 use std::test::Fail;
 
 // The blossom gains 2 at each adjust, until the floor is 0.
 #[test]
 fn priced_triangle(rt: HostRuntime) -> Result<(), Fail> {
-    let offers = [offer(0, 1, 4), offer(0, 2, 4), offer(1, 2, 4)];
+    let offers = [
+        Offer::new(0, 1, 4),
+        Offer::new(0, 2, 4),
+        Offer::new(1, 2, 4),
+    ];
     let mut board = Board::new(ListSource::new(3, &offers));
     let script = [
         Line::NoShrink(2, &[1, 0, 2], 21, 0),
@@ -48,10 +53,10 @@ fn priced_triangle(rt: HostRuntime) -> Result<(), Fail> {
 #[test]
 fn back_to_zero(rt: HostRuntime) -> Result<(), Fail> {
     let offers = [
-        offer(0, 1, 4),
-        offer(0, 2, 4),
-        offer(1, 2, 4),
-        offer(1, 3, 3),
+        Offer::new(0, 1, 4),
+        Offer::new(0, 2, 4),
+        Offer::new(1, 2, 4),
+        Offer::new(1, 3, 3),
     ];
     let mut board = Board::new(ListSource::new(4, &offers));
     let script = [
@@ -81,12 +86,12 @@ fn back_to_zero(rt: HostRuntime) -> Result<(), Fail> {
 #[test]
 fn ring_of_five(rt: HostRuntime) -> Result<(), Fail> {
     let offers = [
-        offer(0, 1, 5),
-        offer(1, 2, 5),
-        offer(2, 3, 5),
-        offer(3, 4, 5),
-        offer(4, 0, 4),
-        offer(5, 3, 4),
+        Offer::new(0, 1, 5),
+        Offer::new(1, 2, 5),
+        Offer::new(2, 3, 5),
+        Offer::new(3, 4, 5),
+        Offer::new(4, 0, 4),
+        Offer::new(5, 3, 4),
     ];
     let mut board = Board::new(ListSource::new(6, &offers));
     let script = [
@@ -116,12 +121,12 @@ fn ring_of_five(rt: HostRuntime) -> Result<(), Fail> {
 #[test]
 fn stem_and_ring(rt: HostRuntime) -> Result<(), Fail> {
     let offers = [
-        offer(0, 1, 5),
-        offer(1, 2, 5),
-        offer(2, 3, 5),
-        offer(3, 4, 5),
-        offer(4, 2, 5),
-        offer(3, 5, 4),
+        Offer::new(0, 1, 5),
+        Offer::new(1, 2, 5),
+        Offer::new(2, 3, 5),
+        Offer::new(3, 4, 5),
+        Offer::new(4, 2, 5),
+        Offer::new(3, 5, 4),
     ];
     let mut board = Board::new(ListSource::new(6, &offers));
     let script = [
@@ -182,12 +187,12 @@ fn stem_and_ring(rt: HostRuntime) -> Result<(), Fail> {
 #[test]
 fn freed_numbers(rt: HostRuntime) -> Result<(), Fail> {
     let offers = [
-        offer(0, 1, 4),
-        offer(0, 2, 4),
-        offer(1, 2, 4),
-        offer(3, 4, 4),
-        offer(3, 5, 4),
-        offer(4, 5, 4),
+        Offer::new(0, 1, 4),
+        Offer::new(0, 2, 4),
+        Offer::new(1, 2, 4),
+        Offer::new(3, 4, 4),
+        Offer::new(3, 5, 4),
+        Offer::new(4, 5, 4),
     ];
     let mut board = Board::new(ListSource::new(6, &offers));
     let script = [

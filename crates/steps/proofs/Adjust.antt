@@ -5,12 +5,13 @@ use Rattle.faults.specs.Checks.{unless}
 use Rattle.faults.specs.declared.layers.BoardFault.TheVariants.{NotBegun, FloorZero, OutOfBounds}
 use Rattle.matching.specs.State.{State, Blossom, k_in, weight, price_at, blossom_at, InUse, inside, yz, paired_in}
 use Rattle.matching.specs.Kept.{Kept, Floored, Fair, Nested, Small}
+use Rattle.matching.proofs.Nesting.{one_root}
+use Rattle.matching.proofs.Nodes.{inside_used, used_known}
 use Rattle.steps.specs.Searches.{first_below}
 use Rattle.steps.specs.Adjust.{label_at, label_fault, zero_fault, bound_fault, adjust_fault, root_label, moved, adjusted, among, joins_parts, in_bounds}
 use Rattle.steps.specs.Theorems.{AdjustKeeps}
-use Rattle.steps.proofs.Searches.{below_none, some_below_true, or_else_none, unless_none, mapped_none, some_not_none, among_at}
+use Rattle.steps.proofs.Searches.{below_none, some_below_true, or_else_none, unless_none, none_mapped, some_not_none, among_at}
 use Rattle.steps.proofs.Alike.{Alike, used_back, inside_same, nested_on, bare_same}
-use Rattle.steps.proofs.Roots.{used_inside, used_low, same_root}
 use Rattle.steps.proofs.Labels.{by_label, moved_parity, same_label, loose_out, price_read, blossom_read, prices_full, blossoms_full, adjusted_alike, in_priced}
 
 -- the checks of an adjust, one by one
@@ -44,7 +45,7 @@ module _ (s : State) (ls : List ℕ) (kept : Kept s) (yes : Accepted s ls) where
   used i u = used_back s (adjusted s ls) alike i u
 
   place_low : (i : ℕ) → InUse (adjusted s ls) i → i < 100
-  place_low i u = used_low s kept.sized.blossoms i (used i u)
+  place_low i u = omega (arith, used_known s i (used i u), kept.sized.blossoms)
 
   price_is : (v : ℕ) → v < s.members → price_at (adjusted s ls) v ≡ moved (label_at ls v) (price_at s v)
   price_is v h = price_read s ls v (let few = kept.sized.few in omega arith)
@@ -66,7 +67,7 @@ module _ (s : State) (ls : List ℕ) (kept : Kept s) (yes : Accepted s ls) where
   bounds : (e : ℕ) → e < length s.rows → in_bounds (adjusted s ls) e ≡ true
   bounds e h =
       let test : ℕ → Bool = λ e. not (in_bounds (adjusted s ls) e) in
-      not-false (in_bounds (adjusted s ls) e) (below_none test (length s.rows) (mapped_none OutOfBounds (first_below test (length s.rows)) yes.bound) e h)
+      not-false (in_bounds (adjusted s ls) e) (below_none test (length s.rows) (none_mapped OutOfBounds (first_below test (length s.rows)) yes.bound) e h)
 
   at_most : (e : ℕ) → e < length s.rows → (paired_in (adjusted s ls) e || joins_parts (adjusted s ls) e) ≡ true → yz (adjusted s ls) e ≤ weight (adjusted s ls) e
   at_most e h b =
@@ -113,10 +114,10 @@ module _ (s : State) (ls : List ℕ) (kept : Kept s) (yes : Accepted s ls) where
   one_parity i v w hv hw =
       let a = sym (inside_same s (adjusted s ls) alike i v) ∙ hv in
       let b = sym (inside_same s (adjusted s ls) alike i w) ∙ hw in
-      let ring = kept.nested.rings i (used_inside (blossom_at s i) v a) in
+      let ring = kept.nested.rings i (inside_used (blossom_at s i) v a) in
       let lv = ring.members v a in
       let lw = ring.members w b in
-      let label = same_label s ls yes.labels w v lw lv (same_root s kept.sized.blossoms kept.nested i v w a b) in
+      let label = same_label s ls yes.labels w v lw lv (one_root s i v w kept a b) in
       let F = yes.floor in
       let yv = kept.floored.above v lv in
       let yw = kept.floored.above w lw in

@@ -1,7 +1,7 @@
 -- What labels that nothing stands against say of each member, and what adjust leaves at each place. Assumes nothing.
 use Rattle.std.proofs.Common.{◌≡◌, ℕ, ◌+◌, ◌-◌, ◌%◌, ◌<◌, ◌≤◌, Bool, true, false, cond, not, ◌&&◌, ◌||◌, eqb, ltb, List, length, None, sym, refl, ap, ◌∙◌, inl, inr, arith}
 use Rattle.std.proofs.lemmas.List.{get_or-map, get_or_past, length-map}
-use Rattle.std.proofs.lemmas.Bool.{and_cases, or_parts, not-false, both_ways, cases_lt, cond_both, eqb-true, eqb-false, ltb-false}
+use Rattle.std.proofs.lemmas.Bool.{and_cases, or_parts, not-false, both_ways, cases_lt, cond_both, eqb-true, eqb-false}
 use Rattle.faults.specs.Checks.{unless}
 use Rattle.faults.specs.declared.layers.BoardFault.TheVariants.{BadLabels, InAtZero}
 use Rattle.matching.specs.Mates.{mate, is_none}
@@ -10,7 +10,7 @@ use Rattle.matching.specs.State.{State, Blossom, no_blossom, price_at, root_at, 
 use Rattle.matching.proofs.Sums.{length_below, getD_below}
 use Rattle.steps.specs.Searches.{first_below, some_below}
 use Rattle.steps.specs.Adjust.{label_at, offends, label_fault, zero_fault, root_label, moved, repriced, adjusted}
-use Rattle.steps.proofs.Searches.{below_none, some_below_false, or_else_none, mapped_none}
+use Rattle.steps.proofs.Searches.{below_none, some_below_false, or_else_none, none_mapped}
 use Rattle.steps.proofs.Alike.{Alike, at_price}
 
 -- a choice by the label: out, in, or neither
@@ -29,18 +29,17 @@ moved_parity l a b p q h = go (eqb l 1) (eqb l 2)
 module _ (s : State) (ls : List ℕ) (labels : label_fault s ls ≡ None) where
   not_offends : (v w : ℕ) → v < s.members → w < s.members → offends s ls v w ≡ false
   not_offends v w lv lw =
-      let none = mapped_none BadLabels (first_below (λ v. some_below (offends s ls v) s.members) s.members) (or_else_none (unless (eqb (length ls) s.members) (BadLabels (length ls))) _ labels).1 in
+      let none = none_mapped BadLabels (first_below (λ v. some_below (offends s ls v) s.members) s.members) (or_else_none (unless (eqb (length ls) s.members) (BadLabels (length ls))) _ labels).1 in
       some_below_false (offends s ls v) s.members (below_none (λ v. some_below (offends s ls v) s.members) s.members none v lv) w lw
 
-  -- the members of one root have one label of the three, and a loose one is out
-  in_root : (v w : ℕ) → v < s.members → w < s.members → root_at s w ≡ root_at s v → (label_at ls w ≡ label_at ls v) × (label_at ls w ≤ 2) × (mate s.mates w ≡ None → label_at ls w ≡ 1)
+  -- the members of one root have one label, and a loose one is out
+  in_root : (v w : ℕ) → v < s.members → w < s.members → root_at s w ≡ root_at s v → (label_at ls w ≡ label_at ls v) × (mate s.mates w ≡ None → label_at ls w ≡ 1)
   in_root v w lv lw e = elim (and_cases (eqb (root_at s w) (root_at s v)) (not same || (high || (alone && not out))) (not_offends v w lv lw)) [
     | inl f ↦ absurd (eqb-false (root_at s w) (root_at s v) f e)
     | inr f ↦
         let a = or_parts (not same) (high || (alone && not out)) f in
         let b = or_parts high (alone && not out) a.1 in (
           eqb-true (label_at ls w) (label_at ls v) (not-false same a.0),
-          ltb-false 2 (label_at ls w) b.0,
           λ m. (elim (and_cases alone (not out) b.1) [
             | inl g ↦ absurd (both_ways alone g (ap is_none m))
             | inr g ↦ eqb-true (label_at ls w) 1 (not-false out g)
@@ -63,11 +62,8 @@ module _ (s : State) (ls : List ℕ) (labels : label_fault s ls ≡ None) where
   pub same_label : (v w : ℕ) → v < s.members → w < s.members → root_at s w ≡ root_at s v → label_at ls w ≡ label_at ls v
   same_label v w lv lw e = (in_root v w lv lw e).0
 
-  pub label_low : (v : ℕ) → v < s.members → label_at ls v ≤ 2
-  label_low v h = (in_root v v h h refl).1
-
   pub loose_out : (v : ℕ) → v < s.members → mate s.mates v ≡ None → label_at ls v ≡ 1
-  loose_out v h = (in_root v v h h refl).2
+  loose_out v h = (in_root v v h h refl).1
 
 module _ (s : State) (ls : List ℕ) where
   pub price_read : (v : ℕ) → v < 200 → price_at (adjusted s ls) v ≡ moved (label_at ls v) (price_at s v)
@@ -100,7 +96,7 @@ module _ (s : State) (ls : List ℕ) where
   pub in_priced : zero_fault s ls ≡ None → (i : ℕ) → i < 100 → InUse s i → root_label s ls (200 + i) ≡ 2 → 1 ≤ (blossom_at s i).price
   in_priced zero i h u l =
       let test : ℕ → Bool = λ i. (blossom_at s i).used && (eqb (root_label s ls (200 + i)) 2 && eqb (blossom_at s i).price 0) in
-      let none = mapped_none (λ i. InAtZero (200 + i)) (first_below test 100) zero in
+      let none = none_mapped (λ i. InAtZero (200 + i)) (first_below test 100) zero in
       let fails = below_none test 100 none i h in
       elim (and_cases (blossom_at s i).used (eqb (root_label s ls (200 + i)) 2 && eqb (blossom_at s i).price 0) fails) [
         | inl f ↦ absurd (both_ways (blossom_at s i).used f u)

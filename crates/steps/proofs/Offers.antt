@@ -5,12 +5,13 @@ use Rattle.std.proofs.lemmas.Bool.{and_parts, and_from, both_ways, cases_Bool, c
 use Rattle.matching.specs.Sums.{total, below}
 use Rattle.matching.specs.State.{State, Blossom, no_blossom, first_of, second_of, price_at, root_at, blossom_at, InUse, inside, node_holds, spans, around, yz}
 use Rattle.matching.specs.Kept.{Kept, Outermost}
+use Rattle.matching.proofs.Nesting.{one_root}
+use Rattle.matching.proofs.Nodes.{inside_used, used_known, holds_inside, node_alone}
 use Rattle.matching.proofs.Sums.{total_nil, total_cons, total_add, total_zero, total_below_same, length_below, getD_below, point}
 use Rattle.steps.specs.Adjust.{label_at, label_of, label_fault, zero_fault, root_label, moved, repriced, adjusted}
 use Rattle.steps.specs.Theorems.{InnerOffersStay, Moves, OuterOffersMove}
 use Rattle.steps.proofs.Searches.{below_none, cases_below}
 use Rattle.steps.proofs.Alike.{inside_same}
-use Rattle.steps.proofs.Roots.{used_inside, used_low, node_blossom, node_alone, same_root}
 use Rattle.steps.proofs.Labels.{same_label, price_read, blossom_read, blossoms_full, adjusted_alike, in_priced}
 
 -- a sum over a list, by its places
@@ -93,7 +94,7 @@ module _ (s : State) (ls : List ℕ) (e : ℕ) (kept : Kept s) (known : e < leng
   -- between two roots
   apart : root_at s (first_of s e) ≢ root_at s (second_of s e) → (i : ℕ) → spans s (blossom_at s i) e ≡ false
   apart d i = elim (cases_Bool (spans s (blossom_at s i) e)) [
-    | inl h ↦ absurd (d (same_root s full kept.nested i (first_of s e) (second_of s e) (ends i h).0 (ends i h).1))
+    | inl h ↦ absurd (d (one_root s i (first_of s e) (second_of s e) kept (ends i h).0 (ends i h).1))
     | inr h ↦ h
   ]
 
@@ -132,7 +133,7 @@ module _ (s : State) (ls : List ℕ) (e : ℕ) (kept : Kept s) (known : e < leng
   ]
 
   held_by_root : (v : ℕ) → node_holds s (root_at s (first_of s e)) v ≡ true → inside (blossom_at s (root_place s e)) v ≡ true
-  held_by_root v h = sym (node_blossom s (root_place s e) v) ∙ subst (λ q. node_holds s q v ≡ true) (sym root_blossom) h
+  held_by_root v h = sym (holds_inside s (root_place s e) v) ∙ subst (λ q. node_holds s q v ≡ true) (sym root_blossom) h
 
   pub root_spans : spans s (blossom_at s (root_place s e)) e ≡ true
   root_spans =
@@ -140,7 +141,7 @@ module _ (s : State) (ls : List ℕ) (e : ℕ) (kept : Kept s) (known : e < leng
       (held_by_root (first_of s e) first_held) (held_by_root (second_of s e) second_held)
 
   root_used : InUse s (root_place s e)
-  root_used = used_inside (blossom_at s (root_place s e)) (first_of s e) (held_by_root (first_of s e) first_held)
+  root_used = inside_used (blossom_at s (root_place s e)) (first_of s e) (held_by_root (first_of s e) first_held)
 
   share_is : (i : ℕ) → i < 100 → share (adjusted s ls) e i ≡ cond (spans s (blossom_at s i) e) (repriced (root_label s ls (200 + i)) (blossom_at s i)).price 0
   share_is i h =
@@ -154,7 +155,7 @@ module _ (s : State) (ls : List ℕ) (e : ℕ) (kept : Kept s) (known : e < leng
         ap (λ l. cond (spans s (blossom_at s i) e) (repriced l (blossom_at s i)).price 0)
         (root_label_none s ls (200 + i) (λ v lt r.
         let free = subst (Outermost s) r (kept.nested.root_outermost v lt) in
-        let held = node_blossom s i (first_of s e) ∙ (ends s ls e kept known i q).0 in
+        let held = holds_inside s i (first_of s e) ∙ (ends s ls e kept known i q).0 in
         let same = kept.nested.root_only (first_of s e) (200 + i) (kept.rows e known).first_in held free in
         d (omega arith)))
     | inr q ↦
@@ -167,7 +168,7 @@ module _ (s : State) (ls : List ℕ) (e : ℕ) (kept : Kept s) (known : e < leng
     root_label_is = root_label_of s ls labels (first_of s e) (200 + root_place s e) (kept.rows e known).first_in (sym root_blossom)
 
     place_low : root_place s e < 100
-    place_low = used_low s kept.sized.blossoms (root_place s e) root_used
+    place_low = omega (arith, used_known s (root_place s e) root_used, kept.sized.blossoms)
 
     at_root : share (adjusted s ls) e (root_place s e) + 2 * ins (label_at ls (first_of s e)) ≡ share s e (root_place s e) + 2 * outs (label_at ls (first_of s e))
     at_root =

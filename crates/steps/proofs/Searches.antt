@@ -2,30 +2,15 @@
 use Rattle.std.proofs.Common.{◌≡◌, ℕ, zero, suc, ◌+◌, ◌<◌, ◌≤◌, Bool, true, false, cond, eqb, ◌⊎◌, List, [], ◌∷◌, length, get_or, is_some, Some, None, Ok, Err, Option, sym, refl, ap, ◌∙◌, inl, inr, arith}
 use Rattle.std.specs.Option.{option_map}
 use Rattle.std.proofs.lemmas.Bool.{both_ways, cases_Bool, cases_eq, cond-true, cond-false, eqb-true, eq-eqb, or_cases, or_left, or_right}
-use Rattle.faults.specs.Checks.{judged, or_else, unless}
+use Rattle.faults.specs.Checks.{judged}
 use Rattle.steps.specs.Searches.{first_from, first_below, some_below}
 use Rattle.steps.specs.Adjust.{among}
+use Rattle.faults.proofs.Judged.{not_some}
+pub use Rattle.faults.proofs.Judged.{or_else_none, unless_none, none_mapped}
 
 module _ {X : Type 0} where
   pub some_none : {x : X} → ◌≡◌ {A = Option X} (Some x) None → ⊥
   some_none h = let z : ◌≡◌ {A = ℕ} 0 1 = cc in omega arith
-
-  -- checks that find no fault
-  pub or_else_none : (f g : Option X) → or_else f g ≡ None → (f ≡ None) × (g ≡ None)
-  or_else_none None g h = (refl, h)
-  or_else_none (Some x) g h = absurd (some_none h)
-
-  pub unless_none : (b : Bool) (x : X) → unless b x ≡ None → b ≡ true
-  unless_none true x h = refl
-  unless_none false x h = absurd (some_none h)
-
-  pub mapped_none : {Y : Type 0} (f : Y → X) (o : Option Y) → option_map f o ≡ None → o ≡ None
-  mapped_none f None h = refl
-  mapped_none f (Some y) h = absurd (some_none h)
-
-  pub none_not_some : (o : Option X) → is_some o ≡ false → o ≡ None
-  none_not_some None h = refl
-  none_not_some (Some x) h = absurd (both_ways true h refl)
 
   pub some_not_none : (o : Option X) → is_some o ≡ true → o ≡ None → ⊥
   some_not_none o h e = both_ways (is_some o) (ap is_some e) h
@@ -60,7 +45,7 @@ pub below_some : (p : ℕ → Bool) (n v : ℕ) → first_below p n ≡ Some v �
 below_some p n v h = let r = from_some p 0 n v h in (let a = r.0 in omega arith, r.1)
 
 pub some_below_false : (p : ℕ → Bool) (n : ℕ) → some_below p n ≡ false → (v : ℕ) → v < n → p v ≡ false
-some_below_false p n h = below_none p n (none_not_some (first_below p n) h)
+some_below_false p n h = below_none p n (not_some (first_below p n) h)
 
 pub some_below_true : (p : ℕ → Bool) (n v : ℕ) → v < n → p v ≡ true → some_below p n ≡ true
 some_below_true p n v lt h = elim (cases_Bool (some_below p n)) [ inl e ↦ e | inr e ↦ absurd (both_ways (p v) (some_below_false p n e v lt) h) ]

@@ -1,3 +1,4 @@
 pub mod Searches
 pub mod Adjust
 pub mod Theorems
+pub mod Kinds

@@ -1,8 +1,13 @@
--- In a rising list the first stock length not below a length is the smallest. Assumes nothing.
-use Rattle.std.proofs.Common.{ℕ, ◌<◌, ◌≤◌, leb, List, [], ◌∷◌, Some, None, Option, arith}
+-- The first stock length not below a length, as a search; in a rising list it is the smallest. Assumes nothing.
+use Rattle.std.proofs.Common.{◌≡◌, ℕ, ◌<◌, ◌≤◌, cond, leb, List, [], ◌∷◌, Some, None, Option, refl, arith}
+use Rattle.std.specs.List.{find}
 use Rattle.std.proofs.ByRecursion.{All-weaker}
 use Rattle.std.proofs.lemmas.Bool.{leb-true, leb-false, cond_both}
+use Rattle.std.proofs.lemmas.List.Recursion.{same_from_clauses}
 use Rattle.stock.specs.Stock.{Rising, stock_of, Smallest}
+
+pub searched : (l : ℕ) (ss : List ℕ) → find (leb l) ss ≡ stock_of ss l
+searched l = same_from_clauses (find (leb l)) (λ ss. stock_of ss l) (λ s o. cond (leb l s) (Some s) o) refl (λ _ _. refl) (λ _ _. refl)
 
 past_low : (s : ℕ) (ss : List ℕ) (l : ℕ) (o : Option ℕ) → s < l → Smallest ss l o → Smallest (s ∷ ss) l o
 past_low s ss l None h r = (h, r)

@@ -1,3 +1,2 @@
-pub mod Branch
 pub mod First
 pub mod StockLaws

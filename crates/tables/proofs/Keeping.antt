@@ -1,17 +1,17 @@
 -- The facts that every board keeps, one by one. Assumes nothing.
-use Rattle.std.proofs.Common.{◌≡◌, ℕ, ◌+◌, ◌*◌, ◌%◌, ◌<◌, ◌≤◌, Bool, true, false, not, map, length, get_or, is_some, Some, None, Option, sym, refl, ap, ◌∙◌, subst, inl, inr, mul-le-mul, arith, get_or-take}
+use Rattle.std.proofs.Common.{◌≡◌, ℕ, ◌+◌, ◌*◌, ◌<◌, ◌≤◌, Bool, true, false, not, map, length, get_or, is_some, Some, None, Option, sym, refl, ap, ◌∙◌, subst, inl, inr, mul-le-mul, arith, get_or-take}
 use mathlib.Core.Logic.{∥∥₁_elim}
 use native.Mathlib.Bridge.{le_prop}
 use native.Mathlib.Nat.{ℕ_set}
 use lib.ListN.{length-map}
-use Rattle.std.proofs.lemmas.List.{get_or-map, get_or_past, length-take-le, take_all}
+use Rattle.std.proofs.lemmas.List.{get_or-map, get_or_past}
 use Rattle.std.proofs.lemmas.Bool.{cases_lt}
 use Rattle.matching.specs.Rows.{no_row, row, Sound}
-use Rattle.matching.specs.Mates.{mate, is_none}
-use Rattle.matching.specs.State.{Blossom, no_blossom, or_zero, root_at, blossom_at, InUse}
+use Rattle.matching.specs.Mates.{is_none}
+use Rattle.matching.specs.State.{no_blossom, or_zero, root_at, blossom_at}
 use Rattle.matching.proofs.Nodes.{inside_used, used_known, holds_cases}
 use Rattle.tables.specs.declared.tables.Tables.{Tables}
-use Rattle.tables.specs.States.{offered, blossom_of, state, no_place, place}
+use Rattle.tables.specs.States.{offered, blossom_of, state, place}
 use Rattle.tables.specs.Kept.{Held, Keeps}
 
 -- what stands in the table is what is offered
@@ -21,13 +21,19 @@ row_offered t e l = get_or-take t.offers t.rows e no_row l
 -- a blossom of the state is read off its place
 pub blossom_there : (t : Tables) (i : ℕ) → blossom_at (state t) i ≡ blossom_of (place t i)
 blossom_there t i = elim (cases_lt i (length t.blossoms)) [
-  | inl l ↦ get_or-map blossom_of t.blossoms i no_place no_blossom l
-  | inr l ↦ get_or_past (map blossom_of t.blossoms) i no_blossom (omega (arith, length-map t.blossoms blossom_of)) ∙ ap blossom_of (sym (get_or_past t.blossoms i no_place l))
+  | inl l ↦ get_or-map blossom_of t.blossoms i None no_blossom l
+  | inr l ↦ get_or_past (map blossom_of t.blossoms) i no_blossom (omega (arith, length-map t.blossoms blossom_of)) ∙ ap blossom_of (sym (get_or_past t.blossoms i None l))
 ]
 
 module _ (t : Tables) (k : Keeps t) where
   pub few : t.members ≤ 200
   few = ∥∥₁_elim k le_prop (λ h. h.kept.sized.few)
+
+  pub mates_long : length t.mates ≡ 200
+  mates_long = ∥∥₁_elim k (ℕ_set _ _) (λ h. h.kept.sized.mates)
+
+  pub roots_long : length t.roots ≡ 200
+  roots_long = ∥∥₁_elim k (ℕ_set _ _) (λ h. h.kept.sized.roots)
 
   pub short : t.offers ≤ 4000
   short = ∥∥₁_elim k le_prop (λ h. h.short)
@@ -35,31 +41,12 @@ module _ (t : Tables) (k : Keeps t) where
   pub full : length (offered t) ≡ t.offers
   full = ∥∥₁_elim k (ℕ_set _ _) (λ h. h.full)
 
-  pub mate_known : (v e : ℕ) → v < t.members → mate t.mates v ≡ Some e → e < t.offers
-  mate_known v e l m = ∥∥₁_elim k le_prop (λ h. omega (arith, h.full, (h.kept.mates v e l m).known))
-
   -- every root is a node: a member or a place of the table of blossoms
   pub root_low : (v : ℕ) → v < t.members → get_or t.roots v 0 < 300
   root_low v l = ∥∥₁_elim k le_prop (λ h. elim (holds_cases (state t) (root_at (state t) v) v (h.kept.nested.root_holds v l)) [
     | inl e ↦ omega (arith, e, h.kept.sized.few)
     | inr b ↦ omega (arith, b.1, used_known (state t) b.0 (inside_used (blossom_at (state t) b.0) v b.2), h.kept.sized.blossoms)
   ])
-
-  pub k_positive : (j : ℕ) → t.begun ≡ Some j → 1 ≤ j
-  k_positive j e = ∥∥₁_elim k le_prop (λ h. (h.kept.begun j e).positive)
-
-  pub floor_low : (j : ℕ) → t.begun ≡ Some j → t.floor ≤ 64000
-  floor_low j e = ∥∥₁_elim k le_prop (λ h. by h)
-    where
-      by : Held t → t.floor ≤ 64000
-      by h =
-          let b = h.kept.begun j e in
-          let twice : 2 * j ≤ 64 = omega (arith, b.small) in
-          let low : t.floor ≤ 2 * j * t.top = subst (λ (o : Option ℕ). t.floor ≤ 2 * or_zero o * t.top) e h.kept.small.floor in
-          omega (arith, low, mul-le-mul twice b.top)
-
-  pub price_above : (v : ℕ) → v < t.members → t.floor ≤ get_or t.prices v 0
-  price_above v l = ∥∥₁_elim k le_prop (λ h. h.kept.floored.above v l)
 
   -- at most 4 k top, for a k of at most 32 and a top of at most 1,000
   pub price_low : (v : ℕ) → v < t.members → get_or t.prices v 0 ≤ 128000
@@ -109,24 +96,3 @@ is_none_by None true h = refl
 is_none_by None false h = let z : ◌≡◌ {A = ℕ} 0 1 = cc in absurd (omega arith)
 is_none_by (Some e) true h = let z : ◌≡◌ {A = ℕ} 0 1 = cc in absurd (omega arith)
 is_none_by (Some e) false h = refl
-
--- the ring of a blossom in use, in tables of 200 places
-module _ (t : Tables) (k : Keeps t) (i : ℕ) (used : InUse (state t) i) (ps : length (place t i).parts ≡ 200) (es : length (place t i).joins ≡ 200) where
-  -- a ring is odd, so it does not fill its table
-  pub ring_low : (place t i).len < 200
-  ring_low = ∥∥₁_elim k le_prop by
-    where
-      by : Held t → (place t i).len < 200
-      by h = elim (cases_lt (place t i).len 200) [
-        | inl l ↦ l
-        | inr ge ↦
-            let full = ap (λ (b : Blossom). length b.parts) (blossom_there t i) ∙ ap length (take_all (place t i).len (place t i).parts (omega arith)) ∙ ps in
-            let z : ◌≡◌ {A = ℕ} (200 % 2) 1 = ap (λ (n : ℕ). n % 2) (sym full) ∙ (h.kept.nested.rings i used).odd in
-            absurd (omega arith)
-      ]
-
-  pub parts_there : length (blossom_at (state t) i).parts ≡ (place t i).len
-  parts_there = ap (λ (b : Blossom). length b.parts) (blossom_there t i) ∙ length-take-le (place t i).len (place t i).parts (omega (arith, ring_low))
-
-  pub joins_there : length (blossom_at (state t) i).joins ≡ (place t i).len
-  joins_there = ap (λ (b : Blossom). length b.joins) (blossom_there t i) ∙ length-take-le (place t i).len (place t i).joins (omega (arith, ring_low))

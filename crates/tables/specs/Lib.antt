@@ -1,3 +1,4 @@
+pub mod Nodes
 pub mod States
 pub mod Kept
 pub mod Prices

@@ -1,15 +1,16 @@
 -- The tables with other prices. Assumes nothing.
-use Rattle.std.specs.Prelude.{ℕ, List, slice_set}
+use Rattle.std.specs.Prelude.{ℕ, List, Option, slice_set}
+use Rattle.std.specs.Option.{option_map}
 use Rattle.tables.specs.declared.tables.Blossom.{Blossom}
 use Rattle.tables.specs.declared.tables.Tables.{Tables}
 use Rattle.tables.specs.States.{place}
 
 -- a blossom at another price
 abbrev pub at_price : ℕ → Blossom → Blossom
-at_price z b = record { used = b.used; price = z; len = b.len; parts = b.parts; joins = b.joins; holds = b.holds }
+at_price z b = record { price = z; len = b.len; links = b.links; holds = b.holds }
 
 -- the tables with other prices
-abbrev pub with_prices : Tables → ℕ → List ℕ → List Blossom → Tables
+abbrev pub with_prices : Tables → ℕ → List ℕ → List (Option Blossom) → Tables
 with_prices t floor ps bs = record {
   members = t.members;
   offers = t.offers;
@@ -23,6 +24,6 @@ with_prices t floor ps bs = record {
   blossoms = bs;
 }
 
--- the blossom at place i at the price z
+-- the blossom at place i, if there is one, at the price z
 abbrev pub place_moved : Tables → ℕ → ℕ → Tables
-place_moved t i z = with_prices t t.floor t.prices (slice_set t.blossoms i (at_price z (place t i)))
+place_moved t i z = with_prices t t.floor t.prices (slice_set t.blossoms i (option_map (at_price z) (place t i)))

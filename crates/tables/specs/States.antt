@@ -1,7 +1,8 @@
 -- The tables of a board, read as a state. Assumes nothing.
-use Rattle.std.specs.Prelude.{ℕ, false, List, [], map, take, slice_index_or}
+use Rattle.std.specs.Prelude.{ℕ, true, List, [], map, take, Some, None, Option, slice_index_or}
 use Rattle.matching.specs.declared.row.Row.{Row}
 use Rattle.matching.specs.State as model
+use Rattle.tables.specs.declared.tables.Link.{Link}
 use Rattle.tables.specs.declared.tables.Blossom.{Blossom}
 use Rattle.tables.specs.declared.tables.Tables.{Tables}
 
@@ -9,9 +10,22 @@ use Rattle.tables.specs.declared.tables.Tables.{Tables}
 abbrev pub offered : Tables → List Row
 offered t = take t.offers t.rows
 
--- a blossom's parts and ring offers are the first ones of their tables
-abbrev pub blossom_of : Blossom → model.Blossom
-blossom_of b = record { used = b.used; price = b.price; parts = take b.len b.parts; joins = take b.len b.joins; holds = b.holds }
+-- the parts of links, and the offers that join each to the next
+abbrev pub parts_in : List Link → List ℕ
+parts_in ls = map (λ (l : Link). l.part) ls
+
+abbrev pub joins_in : List Link → List ℕ
+joins_in ls = map (λ (l : Link). l.join) ls
+
+-- a blossom's ring is the first of its links
+abbrev pub ring_in : Option Blossom → List Link
+ring_in None = []
+ring_in (Some b) = take b.len b.links
+
+-- a place without a blossom is free
+abbrev pub blossom_of : Option Blossom → model.Blossom
+blossom_of None = model.no_blossom
+blossom_of (Some b) = record { used = true; price = b.price; parts = parts_in (take b.len b.links); joins = joins_in (take b.len b.links); holds = b.holds }
 
 abbrev pub state : Tables → model.State
 state t = record {
@@ -26,9 +40,6 @@ state t = record {
   blossoms = map blossom_of t.blossoms;
 }
 
--- the blossom at place i of the tables, and what is read past the last
-abbrev pub no_place : Blossom
-no_place = record { used = false; price = 0; len = 0; parts = []; joins = []; holds = [] }
-
-abbrev pub place : Tables → ℕ → Blossom
-place t i = slice_index_or t.blossoms i no_place
+-- the blossom at place i of the tables, if there is one
+abbrev pub place : Tables → ℕ → Option Blossom
+place t i = slice_index_or t.blossoms i None

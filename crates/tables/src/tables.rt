@@ -1,36 +1,41 @@
 // What a board knows of its offers and holds as prices, pairs and blossoms, in tables of the largest size that a source may have.
-ghost use Rattle.std.specs.Prelude.{◌≡◌, length, if◌then◌else◌, nat_lt};
+// They are arrays, so that no call can want memory.
+ghost use Rattle.std.specs.Prelude.{◌≡◌, ◌≤◌, length, take, if◌then◌else◌, nat_lt};
 ghost use Rattle.tables.specs.Prices.{place_moved};
 
 use matching::row::Row;
 
-// A ring of nodes. A node below 200 is a member, and 200 + i is the blossom at place i.
+// A part of a ring, and the offer that joins it to the next, or the last to the first.
+#[derive(Clone, Copy, PartialEq, Eq, Debug)]
+pub struct Link {
+    pub part: u16,
+    pub join: u16,
+}
+
+// A ring of nodes.
 #[derive(Clone, Copy)]
 pub struct Blossom {
-    // Where it is false, the place is free.
-    pub used: bool,
     // In ticks.
     pub price: u32,
-    // How many parts the ring has.
+    // How many parts the ring has. They stand in an array, since a blossom is copied, and a list that knows its length is not.
     pub len: usize,
-    pub parts: [u16; 200],
-    // The offer that joins each part to the next, and the last to the first.
-    pub joins: [u16; 200],
+    pub links: [Link; 200],
     // Which members lie inside.
     pub holds: [bool; 200],
 }
 
 impl Blossom {
-    // How many parts the ring has; there are 200 places for them, and for its offers.
-    pub fn ring_len(&self) -> usize
-        ensures value { result ≡ self.now.len }
-        ensures parts { length self.now.parts ≡ 200 }
-        ensures joins { length self.now.joins ≡ 200 }
+    // The parts in order, and the offers between them.
+    pub fn ring(&self) -> &[Link]
+        ensures value { result.now ≡ take self.now.len self.now.links }
+        ensures few { length result.now ≤ 200 }
     {
-        self.len
+        self.links.get(..self.len).unwrap_or(&self.links)
     }
 }
 
+// The columns of members stand apart: each step writes one of them whole. Their numbers become indices by casts: no `From` goes
+// from the 32 bits of an offer's members to `usize`, and those of 16 bits are read alike.
 #[derive(Drop)]
 pub struct Tables {
     pub members: usize,
@@ -46,16 +51,19 @@ pub struct Tables {
     pub mates: [Option<u16>; 200],
     // For each member the outermost node that holds it.
     pub roots: [u16; 200],
-    pub blossoms: [Blossom; 100],
+    // At a free place there is none.
+    pub blossoms: [Option<Blossom>; 100],
 }
 
 impl Tables {
-    // Changes the price of one blossom; past the last place there is none to change.
+    // Changes the price of one blossom; where there is none, there is none to change.
     pub fn reprice(&mut self, at: usize, price: u32)
         ensures { self.new ≡ (if nat_lt at 100 then place_moved self.old at price else self.old) }
     {
         if at < 100 {
-            self.blossoms[at].price = price;
+            if let Some(blossom) = &mut self.blossoms[at] {
+                blossom.price = price;
+            }
         }
     }
 }

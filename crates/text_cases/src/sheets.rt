@@ -11,20 +11,12 @@ const EMPTY: Offer = Offer {
     saving: 9,
 };
 
-fn offer(first: u32, second: u32, saving: u32) -> Offer {
-    Offer {
-        first,
-        second,
-        saving,
-    }
-}
-
-// The line that is no form or out of order; 0 for another answer.
-fn bad_line(text: &[u8]) -> usize {
+// The line that is no form or out of order.
+fn bad_line(text: &[u8]) -> Option<usize> {
     let mut slots = [EMPTY; 2];
     match read(text, &mut slots) {
-        Err(Fault::Sheet(SheetFault::BadForm(line))) => line,
-        _ => 0,
+        Err(Fault::Sheet(SheetFault::BadForm(line))) => Some(line),
+        _ => None,
     }
 }
 
@@ -51,9 +43,10 @@ fn good_sheets(rt: HostRuntime) -> Result<(), Fail> {
             offers: 2,
         }
     );
-    assert_eq!(rt; slots[0], offer(0, 1, 70));
-    assert_eq!(rt; slots[1], offer(3, 2, 100_000));
-    assert_eq!(rt; slots[2], EMPTY);
+    assert_eq!(rt;
+        slots,
+        [Offer::new(0, 1, 70), Offer::new(3, 2, 100_000), EMPTY]
+    );
     assert_eq!(rt;
         read(b"(frame 0 999999)\n(coarse 1 1)\n", &mut slots)?.offers,
         0
@@ -63,27 +56,30 @@ fn good_sheets(rt: HostRuntime) -> Result<(), Fail> {
 
 #[test]
 fn bad_lines(rt: HostRuntime) {
-    assert_eq!(rt; bad_line(b""), 1);
-    assert_eq!(rt; bad_line(b"\n"), 1);
-    assert_eq!(rt; bad_line(b"(frame 4 2)"), 1);
-    assert_eq!(rt; bad_line(b"(frame 4  2)\n"), 1);
-    assert_eq!(rt; bad_line(b"(frame 04 2)\n"), 1);
-    assert_eq!(rt; bad_line(b"(frame 4 1000000)\n"), 1);
-    assert_eq!(rt; bad_line(b"(Frame 4 2)\n"), 1);
-    assert_eq!(rt; bad_line(b"(frame 4 2) \n"), 1);
-    assert_eq!(rt; bad_line(b"(frame 4 2)\r\n"), 1);
-    assert_eq!(rt; bad_line(b"(frames 4 2)\n"), 1);
+    assert_eq!(rt; bad_line(b""), Some(1));
+    assert_eq!(rt; bad_line(b"\n"), Some(1));
+    assert_eq!(rt; bad_line(b"(frame 4 2)"), Some(1));
+    assert_eq!(rt; bad_line(b"(frame 4  2)\n"), Some(1));
+    assert_eq!(rt; bad_line(b"(frame 04 2)\n"), Some(1));
+    assert_eq!(rt; bad_line(b"(frame 4 1000000)\n"), Some(1));
+    assert_eq!(rt; bad_line(b"(Frame 4 2)\n"), Some(1));
+    assert_eq!(rt; bad_line(b"(frame 4 2) \n"), Some(1));
+    assert_eq!(rt; bad_line(b"(frame 4 2)\r\n"), Some(1));
+    assert_eq!(rt; bad_line(b"(frames 4 2)\n"), Some(1));
 }
 
 #[test]
 fn lines_out_of_order(rt: HostRuntime) {
-    assert_eq!(rt; bad_line(b"(coarse 1 10)\n"), 1);
-    assert_eq!(rt; bad_line(b"(frame 4 2)\n"), 2);
-    assert_eq!(rt; bad_line(b"(frame 4 2)\n(offer (0 1) 7)\n"), 2);
-    assert_eq!(rt; bad_line(b"(frame 4 2)\n(coarse 1 10)\n(frame 4 2)\n"), 3);
+    assert_eq!(rt; bad_line(b"(coarse 1 10)\n"), Some(1));
+    assert_eq!(rt; bad_line(b"(frame 4 2)\n"), Some(2));
+    assert_eq!(rt; bad_line(b"(frame 4 2)\n(offer (0 1) 7)\n"), Some(2));
+    assert_eq!(rt;
+        bad_line(b"(frame 4 2)\n(coarse 1 10)\n(frame 4 2)\n"),
+        Some(3)
+    );
     assert_eq!(rt;
         bad_line(b"(frame 4 2)\n(coarse 1 10)\n(offer (0 1) 7)\n(offer (0 1) 00)\n"),
-        4
+        Some(4)
     );
 }
 
@@ -123,17 +119,16 @@ fn slots_after_a_refusal(rt: HostRuntime) {
         read(text, &mut slots),
         Err(Fault::Sheet(SheetFault::BadForm(5)))
     );
-    assert_eq!(rt; slots[0], offer(0, 1, 70));
-    assert_eq!(rt; slots[1], offer(8, 8, 5));
-    assert_eq!(rt; slots[2], EMPTY);
+    assert_eq!(rt; slots, [Offer::new(0, 1, 70), Offer::new(8, 8, 5), EMPTY]);
 }
 
 // A head and then offers, of 16 bytes each, to the end of the text.
 fn fill(text: &mut [u8]) {
     let head = b"(frame 2 2)\n(coarse 1 2)\n";
     let line = b"(offer (0 1) 5)\n";
-    for (i, b) in text.iter_mut().enumerate() {
-        *b = if i < 25 { head[i] } else { line[(i - 25) % 16] };
+    let letters = head.iter().chain(line.iter().cycle());
+    for (place, letter) in text.iter_mut().zip(letters) {
+        *place = *letter;
     }
 }
 
@@ -143,7 +138,7 @@ fn long_sheet(len: usize) -> Result<Sheet, Fault> {
     let mut text = [0; 65_536];
     fill(&mut text);
     let end = len.min(65_536);
-    read(&text[0..end], &mut slots)
+    read(&text[..end], &mut slots)
 }
 
 #[test]

@@ -1,5 +1,6 @@
 -- What token stands at the front of a text, and what follows it. Assumes nothing.
-use Rattle.std.specs.Prelude.{◌≡◌, ℕ, ◌+◌, Bool, cond, ◌&&◌, List, [], ◌∷◌, ◌++◌, take, drop, Some, None, Option, ◌==◌, nat_le}
+use Rattle.std.specs.Prelude.{◌≡◌, ℕ, Bool, cond, ◌&&◌, List, [], ◌∷◌, ◌++◌, take, drop, Some, None, Option, ◌==◌, nat_le}
+use Rattle.std.specs.List.{prefix_len}
 use Rattle.std.specs.Borrow.{Bor}
 use Rattle.tokens.specs.declared.token.Kind.{Kind}
 use Rattle.tokens.specs.declared.token.Kind.TheVariants.{Letter, Digit}
@@ -13,8 +14,7 @@ belongs Digit b = nat_le 48 b && nat_le b 57
 
 -- how long the longest run at the front is of bytes that pass the test
 abbrev pub run : (ℕ → Bool) → List ℕ → ℕ
-run p [] = 0
-run p (b ∷ bs) = cond (p b) (run p bs + 1) 0
+run p bs = prefix_len p bs
 
 -- a token by its bytes
 pub data Word : Type 0 where

@@ -3,7 +3,7 @@ ghost use Rattle.std.specs.Prelude.{◌≡◌};
 ghost use Rattle.std.specs.Option.{option_map};
 ghost use Rattle.tokens.specs.Tokens.{belongs, run, token_of, read_token, Splits};
 
-#[derive(Clone, Copy)]
+#[derive(Clone, Copy, PartialEq, Eq, Debug)]
 pub enum Token<'a> {
     Open,
     Close,
@@ -11,7 +11,8 @@ pub enum Token<'a> {
     Numeral(&'a [u8]),
 }
 
-#[derive(Clone, Copy)]
+// An enum, since clauses name the two.
+#[derive(Clone, Copy, PartialEq, Eq, Debug)]
 pub enum Kind {
     Letter,
     Digit,
@@ -22,8 +23,8 @@ impl Kind {
         ensures { result ≡ belongs self b }
     {
         match self {
-            Kind::Letter => b'a' <= b && b <= b'z',
-            Kind::Digit => b'0' <= b && b <= b'9',
+            Kind::Letter => b.is_ascii_lowercase(),
+            Kind::Digit => b.is_ascii_digit(),
         }
     }
 
@@ -31,12 +32,7 @@ impl Kind {
     pub fn run_of(self, text: &[u8]) -> usize
         ensures { result ≡ run (belongs self) text.now }
     {
-        for (i, b) in text.iter().enumerate() {
-            if !self.has(*b) {
-                return i;
-            }
-        }
-        text.len()
+        text.iter().take_while(|b| self.has(**b)).count()
     }
 }
 
@@ -45,9 +41,7 @@ pub fn next_token<'a>(text: &'a [u8]) -> Option<(Token<'a>, &'a [u8])>
     ensures value { option_map read_token result ≡ token_of text.now }
     ensures whole { Splits text.now (option_map read_token result) }
 {
-    let [first, after @ ..] = text else {
-        return None;
-    };
+    let (first, after) = text.split_first()?;
     match *first {
         b'(' => Some((Token::Open, after)),
         b')' => Some((Token::Close, after)),

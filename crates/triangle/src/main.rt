@@ -1,8 +1,10 @@
-// Takes one task from start to finish, and prints each action with what it answered.
+// Takes one task from start to finish with a pair and a blossom, and prints each action with what it answered. Another program prints alike, with functions
+// of its own: a library of functions that print would have nothing to promise.
 #![tactic(auto)]
 
 use board::board::Board;
 use coarse::Coarse;
+use faults::code::Code;
 use faults::layers::BoardFault;
 use plan::plan::Plan;
 use report::write_plan;
@@ -31,11 +33,7 @@ const TRIANGLE: [Offer; 3] = [
 ];
 
 fn show_refusal(rt: &HostRuntime, action: &str, fault: BoardFault) -> io::Result<()> {
-    let code = fault.code();
-    let layer = code.layer;
-    let number = code.number;
-    let place = code.place;
-    println!(rt; "{action}: (refused {layer} {number} {place})")
+    println!(rt; "{action}: (refused {})", Code::from(fault))
 }
 
 fn show_answer(rt: &HostRuntime, action: &str, answer: Result<(), BoardFault>) -> io::Result<()> {
@@ -64,7 +62,20 @@ fn show_partner(
     }
 }
 
-fn show_blossoms<S: Source + Drop>(rt: &HostRuntime, board: &Board<S>) -> io::Result<()> {
+fn show_board<S: Source + Drop>(rt: &HostRuntime, board: &Board<S>) -> io::Result<()> {
+    println!(rt;
+        "  floor {}, loose {}, slack {}",
+        board.floor(),
+        board.loose(),
+        board.slack()
+    )?;
+    // By number: a board answers of one member at a time.
+    for member in 0..board.members() {
+        if let Ok(price) = board.price(member) {
+            println!(rt; "  price of {member}: {price}")?;
+        }
+    }
+    // By number: a board answers of one blossom at a time.
     for node in 200..300 {
         if let Some(price) = board.blossom_price(node) {
             println!(rt; "  price of blossom {node}: {price}")?;
@@ -73,17 +84,22 @@ fn show_blossoms<S: Source + Drop>(rt: &HostRuntime, board: &Board<S>) -> io::Re
     Ok(())
 }
 
-fn show_board<S: Source + Drop>(rt: &HostRuntime, board: &Board<S>) -> io::Result<()> {
-    let floor = board.floor();
-    let loose = board.loose();
-    let slack = board.slack();
-    println!(rt; "  floor {floor}, loose {loose}, slack {slack}")?;
-    for member in 0..board.members() {
-        if let Ok(price) = board.price(member) {
-            println!(rt; "  price of {member}: {price}")?;
-        }
+fn show_plan(rt: &HostRuntime, plan: &Plan) -> io::Result<()> {
+    let mut text = [0; 4096];
+    if let Ok(len) = write_plan(plan, &mut text)
+        && let Some(written) = text.get(..len)
+    {
+        rt.write_all(written)?;
     }
-    show_blossoms(rt, board)
+    Ok(())
+}
+
+// Makes a board of the triangle.
+fn open(rt: &HostRuntime) -> io::Result<Board<Coarse<ListSource<'static>>>> {
+    println!(rt; "make a board of 3 members and 3 offers of 4 mm, coarse 1 over 1")?;
+    let board = Board::new(Coarse::new(ListSource::new(3, &TRIANGLE), 1, 1));
+    show_board(rt, &board)?;
+    Ok(board)
 }
 
 // Brings the prices down until each offer may be paired.
@@ -101,6 +117,15 @@ fn lower<S: Source + Drop>(rt: &HostRuntime, board: &mut Board<S>) -> io::Result
     show_board(rt, board)
 }
 
+// Asks for two partners, and releases the plan.
+fn close<S: Source + Drop>(rt: &HostRuntime, board: Board<S>) -> io::Result<()> {
+    show_partner(rt, "partner of 2", board.partner(2))?;
+    show_partner(rt, "partner of 3", board.partner(3))?;
+    let plan = board.release();
+    println!(rt; "release")?;
+    show_plan(rt, &plan)
+}
+
 // Pairs two of the three.
 fn pair<S: Source + Drop>(rt: &HostRuntime, board: &mut Board<S>) -> io::Result<()> {
     show_answer(rt, "augment from 0 by 1, 0", board.augment(0, &[1, 0]))?;
@@ -113,7 +138,7 @@ fn pair<S: Source + Drop>(rt: &HostRuntime, board: &mut Board<S>) -> io::Result<
 }
 
 // Makes a blossom of the three, and lowers the floor to 0.
-fn close<S: Source + Drop>(rt: &HostRuntime, board: &mut Board<S>) -> io::Result<()> {
+fn join<S: Source + Drop>(rt: &HostRuntime, board: &mut Board<S>) -> io::Result<()> {
     let ring = [1, 0, 2];
     show_answer(rt, "augment from 2 by 1, 0, 2", board.augment(2, &ring))?;
     show_made(rt, "shrink from 2 by 1, 0, 2", board.shrink(2, &ring))?;
@@ -126,30 +151,10 @@ fn close<S: Source + Drop>(rt: &HostRuntime, board: &mut Board<S>) -> io::Result
     show_answer(rt, "adjust out, out, out", board.adjust(&[1, 1, 1]))
 }
 
-fn show_plan(rt: &HostRuntime, plan: &Plan) -> io::Result<()> {
-    let mut text = [0u8; 4096];
-    if let Ok(len) = write_plan(plan, &mut text) {
-        if let Some(written) = text.get(0..len) {
-            if let Ok(written) = std::str::from_utf8(written) {
-                print!(rt; "{written}")?;
-            }
-        }
-    }
-    Ok(())
-}
-
 fn main(rt: HostRuntime) -> io::Result<()> {
-    let offers = TRIANGLE;
-    println!(rt; "make a board of 3 members and 3 offers of 4 mm, coarse 1 over 1")?;
-    let pile = Coarse::new(ListSource::new(3, &offers), 1, 1);
-    let mut board = Board::new(pile);
-    show_board(&rt, &board)?;
+    let mut board = open(&rt)?;
     lower(&rt, &mut board)?;
     pair(&rt, &mut board)?;
-    close(&rt, &mut board)?;
-    show_partner(&rt, "partner of 2", board.partner(2))?;
-    show_partner(&rt, "partner of 3", board.partner(3))?;
-    let plan = board.release();
-    println!(rt; "release")?;
-    show_plan(&rt, &plan)
+    join(&rt, &mut board)?;
+    close(&rt, board)
 }

@@ -1,9 +1,8 @@
 -- Which nodes are roots, told from the tables. Assumes nothing.
-use Rattle.std.proofs.Common.{◌≡◌, ℕ, zero, suc, ◌-◌, ◌<◌, ◌≤◌, Bool, true, false, cond, eqb, ltb, length, get_or, take, sym, refl, ap, ◌∙◌, subst, ⊎_elim, arith}
-use Rattle.std.proofs.lemmas.List.{get_or-take}
-use Rattle.std.proofs.lemmas.Bool.{both_ways, cond_both, eqb-true, eq-eqb}
-use Rattle.matching.specs.declared.row.Row.{Row}
-use Rattle.matching.specs.Rows.{row}
+use Rattle.std.proofs.Common.{◌≡◌, ℕ, zero, suc, ◌-◌, ◌<◌, ◌≤◌, Bool, true, false, cond, eqb, ltb, length, get_or, take, Some, sym, refl, ap, ◌∙◌, subst, ⊎_elim, arith}
+use lib.ListN.{length-map}
+use Rattle.std.proofs.lemmas.List.{get_or-map, get_or-take}
+use Rattle.std.proofs.lemmas.Bool.{both_ways, false_from_ne_true, cond_both, eqb-true, eq-eqb}
 use Rattle.matching.specs.State.{State, Blossom, first_of, root_at, blossom_at, InUse, inside}
 use Rattle.matching.specs.Kept.{Kept}
 use Rattle.matching.proofs.Nodes.{inside_used, used_known, holds_cases}
@@ -11,20 +10,18 @@ use Rattle.matching.proofs.Nesting.{one_root, part_inside}
 use Rattle.steps.proofs.Searches.{some_below_true}
 use Rattle.paths.specs.Walk.{is_root}
 use Rattle.paths.proofs.Walks.{Root, root_from, root_holds_it}
+use Rattle.tables.specs.declared.tables.Link.{Link}
+use Rattle.tables.specs.declared.tables.Blossom.{Blossom as Entry}
 use Rattle.tables.specs.declared.tables.Tables.{Tables}
-use Rattle.tables.specs.States.{offered, state, place}
+use Rattle.tables.specs.States.{joins_in, blossom_of, state, place}
 use Rattle.tables.specs.Kept.{Held}
-use Rattle.tables.proofs.Keeping.{row_offered, blossom_there}
+use Rattle.tables.proofs.Keeping.{blossom_there}
 
 -- two tests that pass together are the same
 pub alike : (a b : Bool) → (a ≡ true → b ≡ true) → (b ≡ true → a ≡ true) → a ≡ b
 alike true b f g = sym (f refl)
 alike false true f g = g refl
 alike false false f g = refl
-
-refuted : (b : Bool) → (b ≡ true → ⊥) → b ≡ false
-refuted true h = absurd (h refl)
-refuted false h = refl
 
 module _ (s : State) (kept : Kept s) where
   pub root_by : (p v : ℕ) → v < s.members → root_at s v ≡ p → is_root s p ≡ true
@@ -40,7 +37,7 @@ module _ (s : State) (kept : Kept s) where
       (λ h. let r = root_from s p h in eq-eqb (root_at s p) p (ap (root_at s) (sym (root_alone p l r)) ∙ r.is))
 
   pub past_root : (p : ℕ) → p < 200 → s.members ≤ p → false ≡ is_root s p
-  past_root p l le = sym (refuted (is_root s p) (λ h. let r = root_from s p h in omega (arith, root_alone p l r, r.below)))
+  past_root p l le = sym (false_from_ne_true (is_root s p) (λ h. let r = root_from s p h in omega (arith, root_alone p l r, r.below)))
 
   -- a root of 200 and more is a blossom in use
   root_blossom : (p : ℕ) → 200 ≤ p → (r : Root s p) → inside (blossom_at s (p - 200)) r.member ≡ true
@@ -53,13 +50,13 @@ module _ (s : State) (kept : Kept s) where
       (holds_cases s p r.member (root_holds_it s kept p r.member r.below r.is))
 
   pub no_number : (p : ℕ) → 300 ≤ p → false ≡ is_root s p
-  no_number p l = sym (refuted (is_root s p) (λ h.
+  no_number p l = sym (false_from_ne_true (is_root s p) (λ h.
       let r = root_from s p h in
       let known = used_known s (p - 200) (inside_used (blossom_at s (p - 200)) r.member (root_blossom p (omega arith) r)) in
       omega (arith, known, kept.sized.blossoms)))
 
   pub unused_root : (p : ℕ) → 200 ≤ p → (blossom_at s (p - 200)).used ≡ false → false ≡ is_root s p
-  unused_root p l u = sym (refuted (is_root s p) (λ h.
+  unused_root p l u = sym (false_from_ne_true (is_root s p) (λ h.
       let r = root_from s p h in
       both_ways (blossom_at s (p - 200)).used u (inside_used (blossom_at s (p - 200)) r.member (root_blossom p l r))))
 
@@ -95,31 +92,34 @@ module _ (s : State) (kept : Kept s) where
       (λ h. root_by p v f.first_in (eqb-true (root_at s v) p h))
       (λ h. let r = root_from s p h in eq-eqb (root_at s v) p (one_root s (p - 200) v r.member kept f.first_held (root_blossom p l r) ∙ r.is))
 
-module _ (t : Tables) (h : Held t) (i : ℕ) (used : (place t i).used ≡ true) where
+-- a blossom's first ring offer, and what a read past the last link gives
+abbrev pub no_link : Link
+no_link = record { part = 0; join = 0 }
+
+abbrev pub first_join_of : Entry → ℕ
+first_join_of b = (get_or b.links 0 no_link).join
+
+module _ (t : Tables) (h : Held t) (i : ℕ) (b : Entry) (is : place t i ≡ Some b) where
+  blossom_is : blossom_at (state t) i ≡ blossom_of (Some b)
+  blossom_is = blossom_there t i ∙ ap blossom_of is
+
   in_use : InUse (state t) i
-  in_use = ap (λ (b : Blossom). b.used) (blossom_there t i) ∙ used
+  in_use = ap (λ (c : Blossom). c.used) blossom_is
 
   -- the first ring offer stands first in its table
-  pub first_offer : get_or (blossom_at (state t) i).joins 0 0 ≡ get_or (place t i).joins 0 0
-  first_offer = ap (λ (b : Blossom). get_or b.joins 0 0) (blossom_there t i) ∙ get_or-take (place t i).len (place t i).joins 0 0 (some (place t i).len refl)
+  first_offer : get_or (blossom_at (state t) i).joins 0 0 ≡ first_join_of b
+  first_offer = ap (λ (c : Blossom). get_or c.joins 0 0) blossom_is ∙ some b.len refl
     where
       ring : 3 ≤ length (blossom_at (state t) i).joins
       ring = let r = h.kept.nested.rings i in_use in omega (arith, r.three, r.joins)
 
-      some : (n : ℕ) → (place t i).len ≡ n → 0 < n
-      some zero e = absurd (omega (arith, ring, ap (λ (b : Blossom). length b.joins) (blossom_there t i), ap (λ n. length (take n (place t i).joins)) e))
-      some (suc n) e = omega arith
+      some : (n : ℕ) → b.len ≡ n → get_or (joins_in (take b.len b.links)) 0 0 ≡ first_join_of b
+      some zero e = absurd (omega (arith, ring, ap (λ (c : Blossom). length c.joins) blossom_is, ap (λ n. length (joins_in (take n b.links))) e))
+      some (suc n) e =
+          let less : 0 < length (take b.len b.links) = omega (arith, ring, ap (λ (c : Blossom). length c.joins) blossom_is, length-map (take b.len b.links) (λ (l : Link). l.join)) in
+          get_or-map (λ (l : Link). l.join) (take b.len b.links) 0 no_link 0 less ∙ ap (λ (l : Link). l.join) (get_or-take b.len b.links 0 no_link (omega (arith, e)))
 
-  pub offer_known : get_or (place t i).joins 0 0 < t.offers
-  offer_known = omega (arith, first_offer, (first_join (state t) h.kept i in_use).known, h.full)
-
-  pub end_known : (row t.rows (get_or (place t i).joins 0 0)).first < t.members
-  end_known = subst (λ (r : Row). r.first < t.members) (same_row) (first_join (state t) h.kept i in_use).first_in
-    where
-      same_row : row (offered t) (get_or (blossom_at (state t) i).joins 0 0) ≡ row t.rows (get_or (place t i).joins 0 0)
-      same_row = ap (row (offered t)) first_offer ∙ row_offered t (get_or (place t i).joins 0 0) offer_known
-
-  pub end_told : (p : ℕ) → 200 ≤ p → p - 200 ≡ i → eqb (get_or t.roots (row t.rows (get_or (place t i).joins 0 0)).first 0) p ≡ is_root (state t) p
+  pub end_told : (p : ℕ) → 200 ≤ p → p - 200 ≡ i → eqb (root_at (state t) (first_of (state t) (first_join_of b))) p ≡ is_root (state t) p
   end_told p l e =
-      ap (λ (r : Row). eqb (get_or t.roots r.first 0) p) (sym (ap (row (offered t)) first_offer ∙ row_offered t (get_or (place t i).joins 0 0) offer_known))
+      ap (λ d. eqb (root_at (state t) (first_of (state t) d)) p) (sym first_offer)
       ∙ subst (λ i. eqb (root_at (state t) (first_of (state t) (get_or (blossom_at (state t) i).joins 0 0))) p ≡ is_root (state t) p) e (blossom_root (state t) h.kept p l (subst (InUse (state t)) (sym e) in_use))

@@ -1,12 +1,14 @@
 // Walks from root to root on the tables of a board, by a list of offers.
 #![tactic(auto)]
 
-ghost use Rattle.std.specs.Prelude.{◌≡◌, ℕ, ◌+◌, ◌<◌, ◌≤◌, Bool, false, not, ◌&&◌, ◌||◌, ◌≢◌, [], ◌∷◌, if◌then◌else◌, Some, None, ◌==◌, nat_eq};
-ghost use Rattle.matching.specs.State.{yz, weight, price_at, first_of, second_of, root_at};
-ghost use Rattle.paths.specs.Walk.{is_root, across, may_go, walk};
+ghost use Rattle.std.specs.Prelude.{◌≡◌, ℕ, ◌+◌, ◌<◌, ◌≢◌, [], ◌∷◌, if◌then◌else◌, Some, None, ◌==◌, false};
+ghost use Rattle.matching.specs.State.{yz, weight, first_of, second_of, root_at};
+ghost use Rattle.paths.specs.Walk.{is_root, across, leaves, may_go, walk};
 ghost use Rattle.tables.specs.States.{state};
-ghost use Rattle.walks.specs.Coming.{comes};
+ghost use Rattle.walks.specs.Coming.{comes, walked};
 
+use faults::layers::BoardFault;
+use tables::node::Node;
 use tables::view::View;
 
 // Whether a node is a root: a member that is its own root, or a blossom that is the root of an end of its ring offer.
@@ -14,60 +16,60 @@ pub fn is_root(view: View<'_>, node: usize) -> bool
     ensures { result ≡ is_root (state view.entry.tables.now) node }
 {
     let tables = view.tables;
-    if node < 200 {
-        return node < tables.members && tables.roots[node] as usize == node;
+    match Node::from(node) {
+        Node::Member(own) => own < tables.members && tables.roots[own] as usize == own,
+        Node::Blossom(at) => match view.blossom(at) {
+            Some(blossom) => {
+                let first = view.row(blossom.links[0].join as usize).first;
+                tables.roots[first as usize] as usize == node
+            }
+            None => false,
+        },
     }
-    if node >= 300 {
-        return false;
-    }
-    let blossom = &tables.blossoms[node - 200];
-    if !blossom.used {
-        return false;
-    }
-    let first = tables.rows[blossom.joins[0] as usize].first as usize;
-    tables.roots[first] as usize == node
 }
 
 // The roots of the two members of an offer.
 fn end_roots(view: View<'_>, offer: usize) -> (u16, u16)
-    requires { offer < view.tables.now.offers }
     ensures first { result.0 ≡ root_at (state view.entry.tables.now) (first_of (state view.entry.tables.now) offer) }
     ensures second { result.1 ≡ root_at (state view.entry.tables.now) (second_of (state view.entry.tables.now) offer) }
-    ensures low { (result.0 < 300) × (result.1 < 300) }
 {
-    let row = view.tables.rows[offer];
-    (
-        view.tables.roots[row.first as usize],
-        view.tables.roots[row.second as usize],
-    )
+    let row = view.row(offer);
+    let roots = &view.tables.roots;
+    (roots[row.first as usize], roots[row.second as usize])
 }
 
 // Whether a paired offer between two roots has yz = W, or an unpaired one yz = W - 2. No blossom holds both its members.
+// Asked here alone, and of an offer that is there. Widened by casts, as where the theorems are.
 fn is_tight(view: View<'_>, offer: usize, paired: bool) -> bool
     requires known { offer < view.tables.now.offers }
     requires apart { root_at (state view.tables.now) (first_of (state view.tables.now) offer) ≢ root_at (state view.tables.now) (second_of (state view.tables.now) offer) }
     ensures { result ≡ (yz (state view.entry.tables.now) offer + (if paired then 0 else 2) == weight (state view.entry.tables.now) offer) }
 {
     let tables = view.tables;
-    let row = tables.rows[offer];
-    let k = match tables.begun {
-        Some(k) => k,
-        None => 0,
-    };
-    let weight = 2 * k as u64 * row.shown as u64;
+    let row = view.row(offer);
+    let weight = 2 * tables.begun.unwrap_or(0) as u64 * row.shown as u64;
     let yz = tables.prices[row.first as usize] as u64 + tables.prices[row.second as usize] as u64;
     let short = if paired { 0 } else { 2 };
     yz + short == weight
 }
 
-// Whether an offer between the roots first and second has one end in the root and the other in another.
-fn leaves(first: usize, second: usize, root: usize) -> bool
-    ensures { result ≡ ((first == root || second == root) && not ((if nat_eq first root then second else first) == root)) }
+// Whether an offer has one end in a root and the other in another.
+fn leaves(view: View<'_>, offer: usize, root: usize) -> bool
+    ensures { result ≡ leaves (state view.entry.tables.now) offer root }
 {
-    if first == root {
-        second != root
+    let (first, second) = end_roots(view, offer);
+    (first as usize == root) != (second as usize == root)
+}
+
+// The root that an offer leads to from a root. An offer that is not there reads as one from member 0 to itself.
+pub fn across(view: View<'_>, offer: usize, root: usize) -> u16
+    ensures { result ≡ across (state view.entry.tables.now) offer root }
+{
+    let (first, second) = end_roots(view, offer);
+    if first as usize == root {
+        second
     } else {
-        second == root
+        first
     }
 }
 
@@ -76,42 +78,14 @@ fn next_root(view: View<'_>, turn: bool, root: usize, offer: usize) -> Option<us
     ensures value { result ≡ (if may_go (state view.entry.tables.now) turn root offer then Some (across (state view.entry.tables.now) offer root) else None) }
     ensures low { (q : ℕ) → result ≡ Some q → q < 300 }
 {
-    if offer >= view.tables.offers {
-        return None;
-    }
-    let (first, second) = end_roots(view, offer);
-    if !leaves(first as usize, second as usize, root) {
+    if offer >= view.tables.offers || !leaves(view, offer, root) {
         return None;
     }
     let paired = view.is_paired(offer);
-    if paired != turn {
+    if paired != turn || !is_tight(view, offer, paired) {
         return None;
     }
-    if !is_tight(view, offer, paired) {
-        return None;
-    }
-    let next = if first as usize == root {
-        second
-    } else {
-        first
-    };
-    Some(next as usize)
-}
-
-// The root that an offer leads to from a root. An offer that is not there reads as one from member 0 to itself.
-pub fn across(view: View<'_>, offer: usize, root: usize) -> usize
-    ensures { result ≡ across (state view.entry.tables.now) offer root }
-{
-    if offer >= view.tables.offers {
-        return view.tables.roots[0] as usize;
-    }
-    let (first, second) = end_roots(view, offer);
-    let next = if first as usize == root {
-        second
-    } else {
-        first
-    };
-    next as usize
+    Some(across(view, offer, root) as usize)
 }
 
 // Whether a walk may come to a root: to one not used yet, but at the end of a walk back to the first root only to that.
@@ -119,33 +93,33 @@ fn may_come(back: Option<usize>, last: bool, used: bool, root: usize) -> bool
     ensures { result ≡ comes back last used root }
 {
     match back {
-        Some(first) => { if last { root == first } else { !used } }
-        None => !used,
+        Some(first) if last => root == first,
+        _ => !used,
     }
 }
 
-// The root that a walk comes to by these offers, from a root by turns by an unpaired and a paired one, or the position of the
-// first that it may not go by. The last offer has to lead to `back`, if that is given.
+// The root that a walk comes to by these offers, from a root by turns by an unpaired and a paired one, unless it may not go
+// by one of them. The last offer has to lead to `back`, if that is given. Root and list stand apart, as a caller hands them.
 pub fn follow(
     view: View<'_>,
     back: Option<usize>,
     root: usize,
     offers: &[u16],
-) -> Result<usize, usize>
-    ensures { result ≡ walk (state view.entry.tables.now) back false (root ∷ []) 0 root offers.now }
+) -> Result<usize, BoardFault>
+    ensures { result ≡ walked (walk (state view.entry.tables.now) back false (root ∷ []) 0 root offers.now) }
 {
     let mut used = [false; 300];
+    // A root of 300 or more has no place here; its first offer is refused.
     if root < 300 {
         used[root] = true;
     }
     let mut at = root;
     let mut turn = false;
-    for i in 0..offers.len() {
-        let Some(next) = next_root(view, turn, at, offers[i] as usize) else {
-            return Err(i);
-        };
+    // By position, up to the first offender.
+    for (i, offer) in offers.iter().enumerate() {
+        let next = next_root(view, turn, at, *offer as usize).ok_or(BoardFault::BadOffer(i))?;
         if !may_come(back, i + 1 == offers.len(), used[next], next) {
-            return Err(i);
+            return Err(BoardFault::BadOffer(i));
         }
         used[next] = true;
         at = next;

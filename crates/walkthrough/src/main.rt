@@ -1,9 +1,12 @@
-// Takes one task from start to finish, and prints each action with what it answered.
+// Takes one task from start to finish, and prints each action with what it answered. Another program prints alike, with functions
+// of its own: a library of functions that print would have nothing to promise.
 #![tactic(auto)]
 
 use board::board::Board;
 use coarse::Coarse;
+use faults::code::Code;
 use faults::layers::BoardFault;
+use plan::plan::Plan;
 use report::write_plan;
 use sources::list_source::ListSource;
 use sources::offer::Offer;
@@ -30,11 +33,7 @@ const TRIANGLE: [Offer; 3] = [
 ];
 
 fn show_refusal(rt: &HostRuntime, action: &str, fault: BoardFault) -> io::Result<()> {
-    let code = fault.code();
-    let layer = code.layer;
-    let number = code.number;
-    let place = code.place;
-    println!(rt; "{action}: (refused {layer} {number} {place})")
+    println!(rt; "{action}: (refused {})", Code::from(fault))
 }
 
 fn show_answer(rt: &HostRuntime, action: &str, answer: Result<(), BoardFault>) -> io::Result<()> {
@@ -57,10 +56,13 @@ fn show_partner(
 }
 
 fn show_board<S: Source + Drop>(rt: &HostRuntime, board: &Board<S>) -> io::Result<()> {
-    let floor = board.floor();
-    let loose = board.loose();
-    let slack = board.slack();
-    println!(rt; "  floor {floor}, loose {loose}, slack {slack}")?;
+    println!(rt;
+        "  floor {}, loose {}, slack {}",
+        board.floor(),
+        board.loose(),
+        board.slack()
+    )?;
+    // By number: a board answers of one member at a time.
     for member in 0..board.members() {
         if let Ok(price) = board.price(member) {
             println!(rt; "  price of {member}: {price}")?;
@@ -69,34 +71,50 @@ fn show_board<S: Source + Drop>(rt: &HostRuntime, board: &Board<S>) -> io::Resul
     Ok(())
 }
 
-fn main(rt: HostRuntime) -> io::Result<()> {
-    let offers = TRIANGLE;
-    println!(rt; "make a board of 3 members and 3 offers of 4 mm, coarse 1 over 1")?;
-    let pile = Coarse::new(ListSource::new(3, &offers), 1, 1);
-    let mut board = Board::new(pile);
-    show_board(&rt, &board)?;
-    show_answer(&rt, "begin with k = 40", board.begin(40))?;
-    show_answer(&rt, "begin with k = 1", board.begin(1))?;
-    show_board(&rt, &board)?;
-    show_answer(&rt, "begin with k = 1", board.begin(1))?;
-    for _ in 0..5 {
-        show_answer(&rt, "adjust out, out, out", board.adjust(&[1, 1, 1]))?;
-    }
-    show_board(&rt, &board)?;
-    show_answer(&rt, "adjust out, out, out", board.adjust(&[1, 1, 1]))?;
-    show_answer(&rt, "adjust out, in, out", board.adjust(&[1, 2, 1]))?;
-    show_board(&rt, &board)?;
-    show_partner(&rt, "partner of 2", board.partner(2))?;
-    show_partner(&rt, "partner of 3", board.partner(3))?;
-    let plan = board.release();
-    println!(rt; "release")?;
-    let mut text = [0u8; 4096];
-    if let Ok(len) = write_plan(&plan, &mut text) {
-        if let Some(written) = text.get(0..len) {
-            if let Ok(written) = std::str::from_utf8(written) {
-                print!(rt; "{written}")?;
-            }
-        }
+fn show_plan(rt: &HostRuntime, plan: &Plan) -> io::Result<()> {
+    let mut text = [0; 4096];
+    if let Ok(len) = write_plan(plan, &mut text)
+        && let Some(written) = text.get(..len)
+    {
+        rt.write_all(written)?;
     }
     Ok(())
+}
+
+// Makes a board of the triangle.
+fn open(rt: &HostRuntime) -> io::Result<Board<Coarse<ListSource<'static>>>> {
+    println!(rt; "make a board of 3 members and 3 offers of 4 mm, coarse 1 over 1")?;
+    let board = Board::new(Coarse::new(ListSource::new(3, &TRIANGLE), 1, 1));
+    show_board(rt, &board)?;
+    Ok(board)
+}
+
+// Brings the prices down until each offer may be paired.
+fn lower<S: Source + Drop>(rt: &HostRuntime, board: &mut Board<S>) -> io::Result<()> {
+    show_answer(rt, "begin with k = 40", board.begin(40))?;
+    show_answer(rt, "begin with k = 1", board.begin(1))?;
+    show_board(rt, board)?;
+    show_answer(rt, "begin with k = 1", board.begin(1))?;
+    for _ in 0..5 {
+        show_answer(rt, "adjust out, out, out", board.adjust(&[1, 1, 1]))?;
+    }
+    show_board(rt, board)?;
+    show_answer(rt, "adjust out, out, out", board.adjust(&[1, 1, 1]))?;
+    show_answer(rt, "adjust out, in, out", board.adjust(&[1, 2, 1]))?;
+    show_board(rt, board)
+}
+
+// Asks for two partners, and releases the plan.
+fn close<S: Source + Drop>(rt: &HostRuntime, board: Board<S>) -> io::Result<()> {
+    show_partner(rt, "partner of 2", board.partner(2))?;
+    show_partner(rt, "partner of 3", board.partner(3))?;
+    let plan = board.release();
+    println!(rt; "release")?;
+    show_plan(rt, &plan)
+}
+
+fn main(rt: HostRuntime) -> io::Result<()> {
+    let mut board = open(&rt)?;
+    lower(&rt, &mut board)?;
+    close(&rt, board)
 }

@@ -1,4 +1,4 @@
-use Rattle.std.proofs.Common.{length, sym, subst}
+use Rattle.std.proofs.Common.{length, sym, subst, arith}
 use Rattle.board.specs.Begins.{begin_fault}
 use Rattle.sheet.specs.Sheets.{Sound, sheet_of}
 use Rattle.answer.specs.Answers.{new_board, Begins, Reads}
@@ -9,7 +9,7 @@ pub slice_bounds-plan_over-end : goal.slice_bounds-plan_over-end
 slice_bounds-plan_over-end c =
     let o = sheet_of (length c.args.slots.now) c.args.input.now in
     let r = c.in_ok-sheet.ensures in
-    offers_fit o.taken c.args.slots.now c.read.new.slots c.in_ok-sheet.sheet.offers r.taken r.sound.counted
+    omega (arith, offers_fit o.taken c.args.slots.now c.read.new.slots c.in_ok-sheet.sheet.offers r.taken r.sound.counted)
 
 pub plan_over-requires : goal.plan_over-requires
 plan_over-requires c =

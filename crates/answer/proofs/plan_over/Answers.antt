@@ -15,7 +15,7 @@ returns c =
     let pile = c.new.result in
     let under = c.new.ensures.under in
     let list = c.new-list.ensures in
-    let made : Made s os c.requires pile.below.n pile.below.offers.now pile.below.top pile.x pile.whole = record {
+    let made : Made s os c.requires pile.below.n pile.below.offers.now pile.below.top pile.ratio.x pile.ratio.whole = record {
       members = ap (λ l. l.n) under ∙ list.members;
       list = ap (λ l. l.offers.now) under ∙ list.list;
       highest = ap (λ l. l.top) under ∙ list.top;
@@ -27,11 +27,11 @@ returns c =
     let p = c.release.result in
     let said = c.in_ok-begin.ensures in
     let kept = said.source ∙ c.new-board.ensures.source in
-    let same = c.new-board.ensures.tables ∙ board_is s os c.requires pile.below.n pile.below.offers.now pile.below.top pile.x pile.whole made in
+    let same = c.new-board.ensures.tables ∙ board_is s os c.requires pile.below.n pile.below.offers.now pile.below.top pile.ratio.x pile.ratio.whole made in
     let now = begun s os c.requires t t' same c.in_ok-begin.field-0 said.value said.after in
     let none = accepted s os c.requires t t' same c.in_ok-begin.field-0 said.value in
-    let plan = planned s os c.requires t t' same pile.below.n pile.below.offers.now pile.below.top pile.x pile.whole made p now c.new-board.ensures.shows
-    (subst (λ z. Released t' (coarse_carry z.x z.whole z.below.n z.below.top (list_carry z.below.n z.below.top) (gap t')) p) kept c.release.ensures.value)
-    (subst (λ z. Shows z.below.n (coarse_rows z.x z.whole (list_rows z.below.offers.now)) (part_of z.x z.whole z.below.top) t' → Bounds (coarse_rows z.x z.whole (list_rows z.below.offers.now)) p.ground p.slack) kept c.release.ensures.truth)
+    let plan = planned s os c.requires t t' same pile.below.n pile.below.offers.now pile.below.top pile.ratio.x pile.ratio.whole made p now c.new-board.ensures.shows
+    (subst (λ z. Released t' (coarse_carry z.ratio.x z.ratio.whole z.below.n z.below.top (list_carry z.below.n z.below.top) (gap t')) p) kept c.release.ensures.value)
+    (subst (λ z. Shows z.below.n (coarse_rows z.ratio.x z.ratio.whole (list_rows z.below.offers.now)) (part_of z.ratio.x z.ratio.whole z.below.top) t' → Bounds (coarse_rows z.ratio.x z.ratio.whole (list_rows z.below.offers.now)) p.ground p.slack) kept c.release.ensures.truth)
     in
     subst (λ o. Begins o s os (Ok p)) (sym none) plan

@@ -1,13 +1,9 @@
 use Rattle.std.proofs.Common.{◌+◌, length, take, ◌∙◌}
 use Rattle.rings.specs.Shrink.{passed}
-use Rattle.tables.specs.States.{state}
+use Rattle.tables.specs.States.{parts_in, joins_in, state}
 use Rattle.blossoms.specs.Steps.{Free}
-use Rattle.blossoms.proofs.Passing.{few_offers}
 use Rattle.blossoms.proofs.Holding.{holds_is, roots_is, ring_told}
 use Rattle.blossoms.proofs.ring_of.Goals as goal
-
-pub padded-requires : goal.padded-requires
-padded-requires c = few_offers c.args.view.tables.now c.args.view.kept c.args.root c.args.offers.now c.in_ok-place.ensures.none
 
 pub returns : goal.returns
 returns c =
@@ -18,14 +14,14 @@ returns c =
     let place = c.in_ok-place.place in
     let free : Free s r es place = c.in_ok-place.ensures in
     let ps = passed s r es in
-    let parts = c.parts_of.result.0 in
-    let marks = c.parts_of.result.1 in
-    let marked = c.parts_of.ensures.marks in
+    let links = take (length es) c.links_of.result.0 in
+    let marks = c.links_of.result.1 in
+    let marked = c.links_of.ensures.marks in
     let holds = c.members_of-holds.result in
     record {
       none = free.none;
       low = free.low;
       free = free.free;
-      blossom = ring_told s ps es (take (length es) parts) (take (length es) c.padded.result) holds c.parts_of.ensures.parts c.padded.ensures (holds_is t c.args.view.kept ps marks marked holds c.members_of-holds.ensures);
+      blossom = ring_told s ps es (parts_in links) (joins_in links) holds c.links_of.ensures.parts c.links_of.ensures.joins (holds_is t c.args.view.kept ps marks marked holds c.members_of-holds.ensures);
       roots = c.roots_under-roots.ensures ∙ roots_is t c.args.view.kept ps marks marked holds c.members_of-holds.ensures (200 + place);
     }

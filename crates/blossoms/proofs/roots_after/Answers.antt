@@ -1,10 +1,10 @@
 use Rattle.rings.specs.Dissolve.{dissolve_fault}
 use Rattle.tables.specs.States.{state}
-use Rattle.blossoms.proofs.Refusing.{told_none, node_from, node_upto}
+use Rattle.faults.proofs.Judged.{told_ok}
+use Rattle.blossoms.proofs.Refusing.{node_from}
 use Rattle.blossoms.proofs.roots_after.Goals as goal
 
 pub roots_of_parts-requires : goal.roots_of_parts-requires
 roots_of_parts-requires c =
     let t = c.args.view.tables.now in
-    let fine = told_none (dissolve_fault (state t) c.args.node) c.in_ok-check_dissolve.field-0 c.in_ok-check_dissolve.ensures in
-    record { from = node_from t c.args.view.kept c.args.node fine; upto = node_upto t c.args.view.kept c.args.node fine }
+    node_from t c.args.view.kept c.args.node (told_ok (dissolve_fault (state t) c.args.node) c.in_ok-check_dissolve.field-0 c.in_ok-check_dissolve.ensures)

@@ -5,10 +5,7 @@ use Rattle.cutlist.specs.Cutlists.{length_fault}
 use Rattle.cutlist.proofs.Passed.{passed_rising}
 use Rattle.cutlist.proofs.check.Goals as goal
 
-pub returns : goal.returns
-returns c =
-    let ls = c.args.lengths.now in
-    let ss = c.args.stock.now in
-    let cut = c.args.cut in
-    let good : ◌≡◌ {A = Result (Unit {0}) SourceFault} (Ok tt) (judged (length_fault ls ss cut)) = search rules in
-    record { verdict = good; rising = λ _. passed_rising ls ss cut (sym good) }
+pub returns-clause-rising : goal.returns-clause-rising
+returns-clause-rising c =
+    let good : ◌≡◌ {A = Result (Unit {0}) SourceFault} (Ok tt) (judged (length_fault c.args.lengths.now c.args.stock.now c.args.cut)) = search rules in
+    λ _. passed_rising c.args.lengths.now c.args.stock.now c.args.cut (sym good)

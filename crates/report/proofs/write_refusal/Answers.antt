@@ -7,7 +7,7 @@ use Rattle.report.proofs.write_refusal.Goals as goal
 pub returns : goal.returns
 returns c =
     let old = c.args.buffer.now in
-    let code = c.code-code.result in
+    let code = c.from-code.result in
     let layer = c.from.result in
     let number = c.from-2.result in
     let text = form (codes "refused") (layer ∷ number ∷ code.place ∷ []) in
@@ -18,7 +18,7 @@ returns c =
     let number_is : number ≡ code.number = c.from-2.ensures in
     let told : text ≡ code_text code = ap (λ l. form (codes "refused") (l ∷ number ∷ code.place ∷ [])) layer-is ∙ ap (λ n. form (codes "refused") (code.layer ∷ n ∷ code.place ∷ [])) number_is in
     let few : length text ≤ 73 = omega (arith, c.push_form.ensures.short) in
-    let named : text ≡ refusal_text c.args.fault = told ∙ ap code_text c.code-code.ensures in
+    let named : text ≡ refusal_text c.args.fault = told ∙ ap code_text c.from-code.ensures in
     let whole : s ≡ refusal_text c.args.fault = held_all s new text pushed c.new-text.ensures (omega arith) ∙ named in
     record {
       result = c.copy_into.ensures.result ∙ ap (λ t. write_result t old) whole;

@@ -1,19 +1,13 @@
-use Rattle.std.proofs.Common.{◌≡◌, sym, refl, arith, rules}
-use Rattle.forms.specs.Forms.{amount}
-use Rattle.forms.proofs.Amounts.{amount_more, amount_all, below_power, digit_below, plain_few}
+use Rattle.std.proofs.Common.{sym, ap, ◌∙◌, true≢false, is_some}
+use Rattle.forms.proofs.Amounts.{text_there, text_same, parsed}
 use Rattle.forms.proofs.form.value.Goals as goal
 
-pub loop-d-init : goal.loop-d-init
-loop-d-init c = (refl, omega arith, plain_few c.args.digits.now (sym c.if-not-is_plain.ensures))
-
-pub loop-d-preserved : goal.loop-d-preserved
-loop-d-preserved c =
-    let ds = c.args.digits.now in
-    let i = c.loop-d.d-index in
-    let more = amount_more ds c.loop-d.n i c.loop-d.invariant.0 (omega arith) in
-    (search rules, below_power c.loop-d.n _ i c.loop-d.invariant.1 (digit_below _ (c.requires i (omega arith))), c.loop-d.invariant.2)
+pub returns-in_err-ok : goal.returns-in_err-ok
+returns-in_err-ok c =
+    absurd (true≢false (sym (text_there c.args.digits.now _ c.from_utf8.result c.requires c.from_utf8.ensures.cases) ∙ sym c.ok.ensures.variant ∙ ap is_some c.in_err-ok.was))
 
 pub returns : goal.returns
 returns c =
-    let all : c.loop-d.n ≡ amount 0 c.args.digits.now = amount_all c.args.digits.now c.loop-d.n c.loop-d.d-index c.loop-d.invariant.0 (omega arith) in
-    search rules
+    let ds = c.args.digits.now in
+    let same = text_same ds _ c.from_utf8.result c.in_ok-ok.field-0 c.from_utf8.ensures.cases (sym c.ok.ensures.value ∙ c.in_ok-ok.was) in
+    c.ok-2.ensures.value ∙ parsed ds c.parse.result c.requires (sym c.if-not-is_plain.ensures) (rw same at c.parse.ensures.value.0)

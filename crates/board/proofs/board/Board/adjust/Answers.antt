@@ -7,7 +7,7 @@ use Rattle.tables.specs.States.{state}
 use Rattle.board.specs.Moves.{all_moved}
 use Rattle.board.specs.Truth.{Shows}
 use Rattle.board.proofs.Moving.{state_moved}
-use Rattle.board.proofs.Stepping.{room, above, low, full, cheap, adjust_held}
+use Rattle.board.proofs.Stepping.{room, above, low, full, idle, cheap, adjust_held}
 use Rattle.board.proofs.board.Board.adjust.Goals as goal
 
 pub returns-in_err-common : goal.returns-in_err-common
@@ -52,7 +52,7 @@ returns g c =
     let ready = c.in_ok-common.ensures in
     record {
       value = sym (ap judged ready.none);
-      after = ap state c.adjust.ensures ∙ state_moved t ls common (full t b.kept ls common ready) ready.roots ∙ sym (ap (λ o. unless_fault o (adjusted (state t) ls) (state t)) ready.none);
+      after = ap state c.adjust.ensures ∙ state_moved t ls common (full t b.kept ls common ready) ready.roots (idle t b.kept ls common ready) ∙ sym (ap (λ o. unless_fault o (adjusted (state t) ls) (state t)) ready.none);
       refused = λ h. absurd (true≢false (sym h));
       source = refl;
       shows = λ n rs top h.

@@ -3,7 +3,7 @@ use Rattle.std.proofs.lemmas.Result.{err_from_is_err_and}
 use Rattle.faults.specs.Checks.{judged, unless_fault}
 use Rattle.board.specs.Begins.{begin_fault, begun_with}
 use Rattle.tables.specs.Kept.{Keeps}
-use Rattle.adjusts.proofs.Accepting.{told_err}
+use Rattle.faults.proofs.Judged.{told_err}
 use Rattle.board.proofs.Keeping.{begun_keeps}
 use Rattle.board.proofs.board.Board.begin.Goals as goal
 

@@ -1,4 +1,4 @@
-use Rattle.std.proofs.Common.{◌≡◌, ◌+◌, ◌-◌, Err, sym, refl, ap, ◌∙◌, subst, arith}
+use Rattle.std.proofs.Common.{◌≡◌, ◌+◌, ◌-◌, Some, Err, sym, refl, ap, ◌∙◌, subst, arith}
 use Rattle.std.proofs.lemmas.Result.{err_from_is_err_and}
 use Rattle.std.proofs.lemmas.Bool.{true≢false}
 use Rattle.matching.specs.State.{blossom_at}
@@ -28,7 +28,7 @@ invariant_of-self g c =
     let b = c.args.self.now in
     let x = c.in_ok-ring.ring in
     let made = c.in_ok-ring.ensures in
-    record { kept = subst Keeps (sym c.set_ring.ensures) (shrink_held b.tables c.args.root c.args.offers.now x.place x.blossom x.roots made.blossom made.roots b.kept made.none made.low made.free) }
+    record { kept = subst Keeps (sym c.set_place.ensures) (shrink_held b.tables c.args.root c.args.offers.now x.place (Some x.blossom) x.roots made.blossom made.roots b.kept made.none made.low made.free) }
 
 pub returns : goal.returns
 returns g c =
@@ -44,11 +44,11 @@ returns g c =
         least = omega arith;
         most = omega (arith, made.low);
         free = ap (λ i. (blossom_at (state t) i).used) same ∙ made.free;
-        after = ap state c.set_ring.ensures ∙ shrunk_is t r es x.place x.blossom x.roots made.blossom made.roots ∙ ap (shrunk (state t) r es) (sym same);
+        after = ap state c.set_place.ensures ∙ shrunk_is t r es x.place (Some x.blossom) x.roots made.blossom made.roots ∙ ap (shrunk (state t) r es) (sym same);
       };
       refused = λ h. absurd (true≢false (sym h));
       source = refl;
       shows = λ n rs top h.
-          let still : Shows n rs top (ringed_anew t x.roots x.place x.blossom) = record { members = h.members; offers = h.offers; highest = h.highest } in
-          subst (Shows n rs top) (sym c.set_ring.ensures) still;
+          let still : Shows n rs top (ringed_anew t x.roots x.place (Some x.blossom)) = record { members = h.members; offers = h.offers; highest = h.highest } in
+          subst (Shows n rs top) (sym c.set_place.ensures) still;
     }

@@ -8,7 +8,7 @@ returns g c =
     let s = g.S.Source in
     let x = c.args.self.now.source in
     let t = c.args.self.now.tables in
-    let same : c.carry.result ≡ s.carried x (gap t) = c.carry.ensures.value ∙ ap (s.carried x) c.gap.ensures in
+    let same : c.carry.result ≡ s.carried x (gap t) = c.carry.ensures.value ∙ ap (s.carried x) (c.gap.ensures ∙ ap gap c.view.ensures) in
     record {
       value = same;
       truth = λ shows b p. omega (arith, same, slack_bounds t c.args.self.now.kept (s.size x) (s.rows x) (s.highest x) (s.carried x) (s.laws x) shows b p);

@@ -3,7 +3,7 @@ use Rattle.report.specs.Drafts.{held, capped}
 use Rattle.report.specs.Texts.{pair_told, pair_line}
 use Rattle.report.proofs.Telling.{Telling, pair_here, pair_elsewhere, tell_more, tell_nothing, tell_all, tell_short}
 use Rattle.report.proofs.draft.Draft.push_pairs.Goals as goal
-use Rattle.report.proofs.draft.Draft.push_pairs.Goals.{in-Some+then-member-other, in-Some+else-member-other, in_default}
+use Rattle.report.proofs.draft.Draft.push_pairs.Goals.{in-Some+then-member-other, in_default, in_default-via-in-None-1, in_default-via-in-Some+else-member-other}
 
 pub loop-member-preserved : goal.loop-member-preserved
 loop-member-preserved c =
@@ -19,12 +19,12 @@ loop-member-preserved c =
           let here : held c.match-partner.self ≡ capped (now ++ pair_line i v) = ap held w.self-is ∙ w.push_pair.ensures.text in
           tell_more pair_told 51 ms was i now inv (omega arith) (held c.match-partner.self) (pair_line i v)
           (pair_here i v m (w.in-Some.is ∙ ap Some (sym w.from.ensures)) (omega arith)) w.push_pair.ensures.short here
-      | in-Some+else-member-other w ↦
-          subst (λ s. Telling pair_told 51 ms (i + 1) was (held s)) (sym w.self-is)
-          (tell_nothing pair_told 51 ms was i now inv (omega arith) (pair_elsewhere i w.in-Some.other m w.in-Some.is (omega arith)))
       | in_default w ↦
           subst (λ s. Telling pair_told 51 ms (i + 1) was (held s)) (sym w.self-is)
-          (tell_nothing pair_told 51 ms was i now inv (omega arith) (ap (pair_told i) w.in_default.is))
+          (tell_nothing pair_told 51 ms was i now inv (omega arith) (elim w.in_default.branch [
+            | in_default-via-in-None-1 w' ↦ grind arith
+            | in_default-via-in-Some+else-member-other w' ↦ pair_elsewhere i w'.in-Some.other m w'.in-Some.is (omega arith)
+          ]))
     ]
 
 pub returns : goal.returns

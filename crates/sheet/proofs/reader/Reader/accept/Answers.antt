@@ -14,11 +14,11 @@ returns c =
           let sheet = w.in-Body-Offer.sheet in
           let room = room_from (most_at reader) sheet.offers _ w.in_ok-check_room-in-Body-Offer.ensures in
           let step =
-          taken_by reader.line _ _ (slots_in reader) _ _ _ _ _ _ w.in-Body-Offer.is-0 w.in-Body-Offer.is-1 w.self2-is (ap slots_in w.self-is)
+          taken_by reader.line _ _ (slots_in reader) _ _ _ _ _ _ w.in-Body-Offer.is-0 w.in-Body-Offer.is-1 w.self2-is (ap (λ r. r.1.0.now) w.self-is)
           (offer_taken reader.line sheet (slots_in reader) w.in-Body-Offer.offer room)
           in
           record {
-            step = record { lent = ap (λ r. r.slots.ghost_name) (sym w.self-is); same = step.same; stage = step.stage; used = step.used; within = step.within; long = step.long; rest = step.rest };
-            line = ap (λ r. r.line) w.self-is;
+            step = record { lent = ap (λ r. r.1.0.ghost_name) (sym w.self-is); same = step.same; stage = step.stage; used = step.used; long = step.long; rest = step.rest };
+            line = ap (λ r. r.1.1.0) w.self-is;
           }
     ]
