@@ -4,10 +4,8 @@ ghost use Rattle.faults.specs.Checks.{judged};
 ghost use Rattle.matching.specs.State.{node_holds};
 ghost use Rattle.rings.specs.Dissolve.{dissolve_fault, dissolved, holder};
 ghost use Rattle.tables.specs.States.{parts_in, state};
-ghost use Rattle.blossoms.specs.Steps.{parted};
 
 use faults::layers::BoardFault;
-use std::array;
 use tables::node::Node;
 use tables::tables::Link;
 use tables::view::View;
@@ -47,24 +45,18 @@ fn holder(view: View<'_>, ring: &[Link], member: usize) -> u16
     first_holding(view, ring, member).unwrap_or(member as u16)
 }
 
-// The root of a member, once the parts of a blossom are roots.
-fn root_after(view: View<'_>, node: usize, member: usize) -> u16
-    requires blossom { 200 ≤ node }
-    requires low { member < 200 }
-    ensures { result ≡ parted (state view.entry.tables.now) node member }
-{
-    let root = view.tables.roots[member];
-    if member < view.tables.members && root as usize == node {
-        holder(view, view.ring(node - 200), member)
-    } else {
-        root
-    }
-}
-
 // The root of each member, once the blossom's parts are roots.
 pub(crate) fn roots_of_parts(view: View<'_>, node: usize) -> [u16; 200]
     requires { 200 ≤ node }
     ensures { result ≡ (dissolved (state view.entry.tables.now) node).roots }
 {
-    array::from_fn(|member| root_after(view, node, member))
+    // A loop over the members that are there, as where a blossom is made.
+    let ring = view.ring(node - 200);
+    let mut roots = view.tables.roots;
+    for v in 0..view.tables.members {
+        if roots[v] as usize == node {
+            roots[v] = holder(view, ring, v);
+        }
+    }
+    roots
 }

@@ -63,19 +63,16 @@ pub(crate) fn links_of(view: View<'_>, root: usize, offers: &[u16]) -> ([Link; 2
     (links, marks)
 }
 
-// Whether there is such a member and its root is marked.
-fn is_marked(view: View<'_>, marks: &[bool; 300], member: usize) -> bool
-    ensures { result ≡ (nat_lt member view.entry.tables.now.members && slice_index_or marks.now (root_at (state view.entry.tables.now) member) false) }
-{
-    let tables = view.tables;
-    member < tables.members && marks[tables.roots[member] as usize]
-}
-
 // The members whose root is marked.
 pub(crate) fn members_of(view: View<'_>, marks: &[bool; 300]) -> [bool; 200]
     ensures { result ≡ map (λ (v : ℕ). nat_lt v view.entry.tables.now.members && slice_index_or marks.now (root_at (state view.entry.tables.now) v) false) (below 200) }
 {
-    array::from_fn(|member| is_marked(view, marks, member))
+    // A loop over the members that are there: with all 200 places made by `from_fn`, a step on a small board takes twice as long.
+    let mut holds = [false; 200];
+    for v in 0..view.tables.members {
+        holds[v] = marks[view.tables.roots[v] as usize];
+    }
+    holds
 }
 
 // The root of each member, once a new one holds some of them.

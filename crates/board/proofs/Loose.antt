@@ -1,10 +1,29 @@
 -- The members that are loose, counted. Assumes nothing.
-use Rattle.std.proofs.Common.{◌≡◌, ℕ, zero, suc, ◌+◌, ◌≤◌, Bool, true, false, cond, List, length, get_or, take, is_none, count_by, None, Option, sym, refl, ap, ◌∙◌, add-one, arith}
-use Rattle.std.proofs.lemmas.List.Sums.{count_by_more_no, count_by_more_yes}
+use Rattle.std.proofs.Common.{◌≡◌, ℕ, zero, suc, ◌+◌, ◌%◌, ◌^◌, ◌<◌, ◌≤◌, Bool, true, false, cond, List, [], ◌∷◌, length, get_or, take, is_none, count_by, None, Option, sym, refl, ap, ◌∙◌, add-one, arith}
+use Rattle.std.specs.List.{fold}
+use Rattle.std.proofs.Math.Nat.{mod-eq_of_lt}
+use Rattle.std.proofs.lemmas.List.Sums.{sum_by-cons, count_by_more_no, count_by_more_yes}
 use Rattle.matching.specs.Mates.{mate, loose}
 use Rattle.matching.specs.Mates.{is_none as without}
 use Rattle.matching.proofs.Sums.{total_below_none, total_below_more}
 use Rattle.augments.proofs.Loosing.{same_test}
+
+-- a count with one member more
+abbrev pub one_more : ℕ → Option ℕ → ℕ
+one_more n m = (n + cond (is_none m) 1 0) % 2 ^ 64
+
+one_or_none : (b : Bool) → cond b 1 0 ≤ 1
+one_or_none true = omega arith
+one_or_none false = omega arith
+
+pub folded : (ms : List (Option ℕ)) (n : ℕ) → n + length ms < 2 ^ 64 → fold one_more n ms ≡ n + count_by is_none ms
+folded [] n l = omega arith
+folded (m ∷ ms) n l =
+    let low = one_or_none (is_none m) in
+    let more : one_more n m ≡ n + cond (is_none m) 1 0 = mod-eq_of_lt (omega (arith, low)) in
+    ap (λ k. fold one_more k ms) more
+    ∙ folded ms (n + cond (is_none m) 1 0) (omega (arith, low))
+    ∙ omega (arith, sum_by-cons (λ (x : Option ℕ). cond (is_none x) 1 0) m ms)
 
 module _ (ms : List (Option ℕ)) where
   abbrev free : ℕ → ℕ

@@ -52,7 +52,7 @@ module _ (t : Tables) (p : ℕ) (roots : List ℕ) (to : roots ≡ (dissolved (s
   dissolved_is = ringed_state t roots (p - 200) None ∙ ap (λ x. with_blossoms (state t) x (set (state t).blossoms (p - 200) no_blossom)) to
 
   pub dissolve_held : Keeps t → dissolve_fault (state t) p ≡ None → Keeps (ringed_anew t roots (p - 200) None)
-  dissolve_held k none = ringed_held t roots (p - 200) None (dissolved (state t) p) dissolved_is (λ kept. dissolve_keeps (state t) p kept none) k
+  dissolve_held k none = ringed_held t roots (p - 200) None (dissolved (state t) p) dissolved_is (λ kept. dissolve_keeps (state t) p no_blossom kept none refl) k
 
   -- the node is the number of a place
   module _ (none : dissolve_fault (state t) p ≡ None) where

@@ -1,5 +1,5 @@
 // The questions, read off the tables.
-ghost use Rattle.std.specs.Prelude.{◌≡◌, ℕ, ◌<◌, ◌≤◌, count_by, if◌then◌else◌, is_none, None, nat_lt, slice_index_or};
+ghost use Rattle.std.specs.Prelude.{◌≡◌, ℕ, ◌+◌, ◌%◌, ◌^◌, ◌<◌, ◌≤◌, cond, count_by, if◌then◌else◌, is_none, None, nat_lt, slice_index_or};
 ghost use Rattle.board.specs.Savings.{saving_in, saved};
 ghost use Rattle.board.specs.Questions.{of_member, partner_of, loose_of, gap};
 
@@ -78,10 +78,17 @@ pub(crate) fn check_member(tables: &Tables, member: usize) -> Result<(), BoardFa
     Ok(())
 }
 
+// One more, if the member has no mate. It never wraps: there are no more members than that.
+fn counted(count: usize, mate: Option<u16>) -> usize
+    ensures { result ≡ (count + cond (is_none mate) 1 0) % 2 ^ 64 }
+{
+    count.wrapping_add(usize::from(mate.is_none()))
+}
+
 fn count_none(mates: &[Option<u16>]) -> usize
     ensures { result ≡ count_by is_none mates.now }
 {
-    mates.iter().filter(|mate| mate.is_none()).count()
+    mates.iter().fold(0, |count, mate| counted(count, *mate))
 }
 
 // How many members are loose.
@@ -97,11 +104,17 @@ pub(crate) fn gap(view: View<'_>) -> u64
     ensures { result ≡ gap view.entry.tables.now }
 {
     let tables = view.tables;
+    // Before begin the floor is 0, and nobody is counted.
+    let free = if tables.begun.is_some() {
+        loose(view) as u32
+    } else {
+        0
+    };
     most_gap(
         tables.begun,
         tables.members as u32,
         tables.top,
         tables.floor,
-        loose(view) as u32,
+        free,
     )
 }

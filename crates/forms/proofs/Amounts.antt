@@ -1,34 +1,26 @@
--- The value of digits, as the library parses them. Assumes nothing.
-use Rattle.std.proofs.Common.{◌≡◌, ℕ, ◌<◌, true, List, length, get_or, is_ok, is_some, true≢false, Some, Ok, Err, Result, MatchResult, sym, refl, ap, ◌∙◌, ⊎_elim, arith}
-use Rattle.std.specs.Borrow.{Bor}
-use Rattle.std.specs.Result.{result_ok}
-use Rattle.std.specs.Str.{IsAscii, IsUtf8}
-use Rattle.std.specs.Str.Parse.{ParsesUnsigned}
-use Rattle.std.proofs.lemmas.Bool.{cond-true, cases_lt}
-use Rattle.std.proofs.lemmas.Grind.{common_steps}
-use Rattle.std.proofs.lemmas.Str.{IsUtf8-from_ascii}
-use Rattle.std.proofs.lemmas.Str.Parse.{digits_value_short, parse_gives}
-use Rattle.forms.specs.Forms.{plain, value_of, Digits}
-use Rattle.forms.proofs.Numbers.{own, in_digits, plain_parts}
+-- The value of digits, digit by digit. Assumes nothing.
+use Rattle.std.proofs.Common.{◌≡◌, ℕ, zero, suc, ◌+◌, ◌-◌, ◌*◌, ◌^◌, ◌%◌, ◌<◌, ◌≤◌, true, List, [], ◌∷◌, length, get_or, Some, sym, refl, ap, ◌∙◌, pow-suc, add-one, arith}
+use Rattle.std.specs.List.{fold}
+use Rattle.std.proofs.lemmas.Bool.{cond-true}
+use Rattle.std.proofs.Math.Nat.{mod-eq_of_lt, pow-le-pow_right}
+use Rattle.forms.specs.Forms.{amount, digit_more, plain, value_of, Digits}
+use Rattle.forms.proofs.Numbers.{Digital, in_digits, plain_parts}
 
-ascii : (ds : List ℕ) → Digits ds → IsAscii ds
-ascii ds h i = ⊎_elim (λ l. omega (arith, in_digits (get_or ds i 0) (h i l))) (λ l. grind (arith, common_steps)) (cases_lt i (length ds))
+-- one digit more
+below_power : (n d i : ℕ) → n < 10 ^ i → d < 10 → n * 10 + d < 10 ^ (i + 1)
+below_power n d i l k = let e : 10 ^ (i + 1) ≡ 10 ^ i * 10 = ap (λ j. 10 ^ j) (add-one i) ∙ pow-suc 10 i in omega arith
 
--- what from_utf8 answers of digits
-abbrev Read : {E : Type 0} → List ℕ → (E → Type 0) → Result (Bor (List ℕ)) E → Type 0
-Read ds Q r = MatchResult r (λ s. (s.now ≡ ds) × IsUtf8 ds) (λ e. (IsUtf8 ds → ⊥) × Q e)
+-- digits behind a number of i digits: with six in all, nothing wraps
+folded : (ds : List ℕ) (n i : ℕ) → Digital ds → n < 10 ^ i → i + length ds ≤ 6 → fold digit_more n ds ≡ amount n ds
+folded [] n i h l few = refl
+folded (d ∷ ds) n i h l few =
+    let digit = h 0 (omega arith) in
+    let more = below_power n (d - 48) i l (omega (arith, digit)) in
+    let six : 10 ^ (i + 1) ≤ 10 ^ 6 = pow-le-pow_right (omega arith) {i = i + 1} {j = 6} (omega arith) in
+    let whole : digit_more n d ≡ n * 10 + (d - 48) = mod-eq_of_lt (omega (arith, more, six)) in
+    ap (λ m. fold digit_more m ds) whole ∙ folded ds (n * 10 + (d - 48)) (i + 1) (λ j k. h (suc j) (omega arith)) more (omega arith)
 
-pub text_there : {E : Type 0} (ds : List ℕ) (Q : E → Type 0) (r : Result (Bor (List ℕ)) E) → Digits ds → Read ds Q r → is_ok r ≡ true
-text_there ds Q (Ok s) d h = refl
-text_there ds Q (Err e) d h = absurd (h.0 (IsUtf8-from_ascii ds (ascii ds d)))
-
-pub text_same : {E : Type 0} (ds : List ℕ) (Q : E → Type 0) (r : Result (Bor (List ℕ)) E) (s : Bor (List ℕ)) → Read ds Q r → result_ok r ≡ Some s → s.now ≡ ds
-text_same ds Q (Ok t) s h e = let same : t ≡ s = cc in ap (λ x. x.now) (sym same) ∙ h.0
-text_same ds Q (Err f) s h e = absurd (true≢false (sym (ap is_some e)))
-
-pub parsed : {E : Type 0} (ds : List ℕ) (r : Result ℕ E) → Digits ds → plain ds ≡ true → ParsesUnsigned 32 10 ds r → result_ok r ≡ value_of ds
-parsed ds r d h p =
-    let digital = λ (i : ℕ) (l : i < length ds). in_digits (get_or ds i 0) (d i l) in
-    let parts = plain_parts ds h in
-    let small = digits_value_short own ds 6 digital parts.1 in
-    ap result_ok (parse_gives own 32 ds r p digital (omega (arith, parts.0)) (omega (arith, small))) ∙ sym (cond-true (plain ds) _ _ h)
+pub value_folded : (ds : List ℕ) → Digits ds → plain ds ≡ true → Some (fold digit_more 0 ds) ≡ value_of ds
+value_folded ds h p =
+    let digital = λ (i : ℕ) (l : i < length ds). in_digits (get_or ds i 0) (h i l) in
+    ap Some (folded ds 0 0 digital (omega arith) (omega (arith, (plain_parts ds p).1))) ∙ sym (cond-true (plain ds) _ _ p)

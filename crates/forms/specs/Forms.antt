@@ -1,5 +1,5 @@
 -- What a line of a sheet says: the text of a form, and the form of a text. Assumes nothing.
-use Rattle.std.specs.Prelude.{◌≡◌, ℕ, ◌+◌, ◌-◌, ◌*◌, ◌<◌, ◌≤◌, Bool, true, cond, not, ◌&&◌, ◌||◌, ◌↔◌, List, [], ◌∷◌, ◌++◌, length, take, drop, Some, None, codes, Option, ◌==◌, nat_le, slice_index}
+use Rattle.std.specs.Prelude.{◌≡◌, ℕ, ◌+◌, ◌-◌, ◌*◌, ◌%◌, ◌^◌, ◌<◌, ◌≤◌, Bool, true, cond, not, ◌&&◌, ◌||◌, ◌↔◌, List, [], ◌∷◌, ◌++◌, length, take, drop, Some, None, codes, Option, ◌==◌, nat_le, slice_index}
 use Rattle.std.specs.Borrow.{Bor}
 use Rattle.std.specs.Str.{bytes_eq}
 use Rattle.sources.specs.declared.offer.Offer.{Offer as Listed}
@@ -50,6 +50,10 @@ bracket (Numeral w) t = None
 abbrev pub amount : ℕ → List ℕ → ℕ
 amount n [] = n
 amount n (d ∷ ds) = amount (n * 10 + (d - 48)) ds
+
+-- a number of 32 bits with one digit more
+abbrev pub digit_more : ℕ → ℕ → ℕ
+digit_more n d = (n * 10 + (d - 48)) % 2 ^ 32
 
 abbrev pub Digits : List ℕ → Type 0
 Digits ds = (i : ℕ) → i < length ds → belongs Digit (slice_index ds i) ≡ true

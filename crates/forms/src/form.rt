@@ -1,7 +1,7 @@
 // Forms: what a line of a sheet says.
 ghost use Rattle.std.specs.Prelude.{◌≡◌};
 ghost use Rattle.std.specs.Option.{option_map};
-ghost use Rattle.forms.specs.Forms.{byte, bracket, ended, name_of, Digits, plain, value_of, number_of, pair_of, two_of, offer_of, keyword_of, form, Exact, both_now, number_now, pair_now};
+ghost use Rattle.forms.specs.Forms.{byte, bracket, ended, name_of, Digits, plain, digit_more, value_of, number_of, pair_of, two_of, offer_of, keyword_of, form, Exact, both_now, number_now, pair_now};
 
 use sources::offer::Offer;
 use tokens::token::{Token, next_token};
@@ -69,6 +69,15 @@ fn is_plain(digits: &[u8]) -> bool
     }
 }
 
+// A number with one digit more. Past 32 bits it would wrap, and six digits stay below.
+fn with_digit(number: u32, digit: u8) -> u32
+    ensures { result ≡ digit_more number digit }
+{
+    number
+        .wrapping_mul(10)
+        .wrapping_add(u32::from(digit.saturating_sub(b'0')))
+}
+
 // The value of a numeral.
 fn value(digits: &[u8]) -> Option<u32>
     requires { Digits digits.now }
@@ -77,7 +86,11 @@ fn value(digits: &[u8]) -> Option<u32>
     if !is_plain(digits) {
         return None;
     }
-    str::from_utf8(digits).ok()?.parse().ok()
+    Some(
+        digits
+            .iter()
+            .fold(0, |number, digit| with_digit(number, *digit)),
+    )
 }
 
 // The number at the front, and what follows it.

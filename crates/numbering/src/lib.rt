@@ -37,9 +37,10 @@ pub fn members_of(members: usize, offer: usize) -> Option<(usize, usize)>
     if members > MOST_LENGTHS || offer >= offers_among(members) {
         return None;
     }
-    // A loop: a chain would hand `before` and `v` on in pairs, from closure to closure.
+    // A loop: a chain would hand `before` and `v` on in pairs, from closure to closure. A row begins as many offers before the next as its member's number.
+    let mut before = offers_among(members);
     for v in (0..members).rev() {
-        let before = offers_among(v);
+        before -= v;
         if before <= offer {
             return Some((offer - before, v));
         }

@@ -4,7 +4,7 @@ use Rattle.std.proofs.lemmas.Bool.{and_from, and_parts, both_ways, cases_Bool, c
 use Rattle.faults.specs.declared.layers.BoardFault.TheVariants.{NotBegun, NotRoot, Priced}
 use Rattle.faults.specs.Checks.{unless}
 use Rattle.matching.specs.Sums.{count}
-use Rattle.matching.specs.State.{State, no_blossom, Blossom, k_in, price_at, root_at, blossom_at, InUse, inside, node_holds, spans, yz, weight}
+use Rattle.matching.specs.State.{State, Blossom, k_in, price_at, root_at, blossom_at, InUse, inside, node_holds, spans, first_of, second_of, yz, weight}
 use Rattle.matching.specs.Kept.{Kept, Nested, Fair, Ring, Outermost, part_at, bare}
 use Rattle.matching.proofs.Sums.{total_nil, total_cons}
 use Rattle.matching.proofs.Nodes.{inside_used, used_known}
@@ -14,7 +14,7 @@ use Rattle.steps.proofs.Searches.{or_else_none, unless_none, among_at, among_pla
 use Rattle.paths.specs.Walk.{is_root}
 use Rattle.paths.proofs.Rings.{holds_blossom}
 use Rattle.paths.proofs.Walks.{Root, root_from, root_node, root_outermost, root_of_held, root_holds_it}
-use Rattle.rings.specs.Dissolve.{dissolve_fault, holder, dissolved}
+use Rattle.rings.specs.Dissolve.{dissolve_fault, holder, dissolved_leaving}
 use Rattle.rings.specs.Theorems.{DissolveKeeps, DissolveStays}
 use Rattle.rings.proofs.Places.{root_read, blossom_there, blossom_else, holds_there, holds_else, yz_same, bare_same, used_else, used_was, ring_else, kept_placed}
 
@@ -58,7 +58,8 @@ held s (q ∷ qs) v some = elim (cases_Bool (node_holds s q v)) [
 abbrev new_root : State → ℕ → ℕ → ℕ
 new_root s p v = cond (ltb v s.members && eqb (root_at s v) p) (holder s (blossom_at s (p - 200)).parts v) (root_at s v)
 
-module _ (s : State) (kept : Kept s) (p : ℕ) (r : Ripe s p) where
+-- f is what is left at the place
+module _ (s : State) (kept : Kept s) (p : ℕ) (r : Ripe s p) (f : Blossom) (off : f.used ≡ false) where
   abbrev i : ℕ
   i = p - 200
 
@@ -66,7 +67,7 @@ module _ (s : State) (kept : Kept s) (p : ℕ) (r : Ripe s p) where
   b = blossom_at s i
 
   abbrev t : State
-  t = dissolved s p
+  t = dissolved_leaving s p f
 
   is_p : 200 + i ≡ p
   is_p = omega (arith, r.blossom)
@@ -77,28 +78,34 @@ module _ (s : State) (kept : Kept s) (p : ℕ) (r : Ripe s p) where
   room : i < length s.blossoms
   room = used_known s i used
 
+  nothing_inside : (v : ℕ) → inside f v ≡ false
+  nothing_inside v = ap (λ (x : Bool). x && get_or f.holds v false) off
+
+  spans_none : (e : ℕ) → spans s f e ≡ false
+  spans_none e = ap (λ (x : Bool). x && inside f (second_of s e)) (nothing_inside (first_of s e))
+
   yz_stays : (e : ℕ) → yz t e ≡ yz s e
-  yz_stays e = yz_same s (new_root s p) i no_blossom kept.sized.blossoms (omega (arith, room, kept.sized.blossoms)) e
-      (none (spans s no_blossom e) ∙ sym (none (spans s b e)))
+  yz_stays e = yz_same s (new_root s p) i f kept.sized.blossoms (omega (arith, room, kept.sized.blossoms)) e
+      (ap (λ x. cond x f.price 0) (spans_none e) ∙ sym (none (spans s b e)))
     where
       none : (x : Bool) → cond x b.price 0 ≡ 0
       none true = r.unpriced
       none false = refl
 
-  there : blossom_at t i ≡ no_blossom
-  there = blossom_there s (new_root s p) i no_blossom room
+  there : blossom_at t i ≡ f
+  there = blossom_there s (new_root s p) i f room
 
   else_same : (h : ℕ) → h ≢ i → blossom_at t h ≡ blossom_at s h
-  else_same = blossom_else s (new_root s p) i no_blossom
+  else_same = blossom_else s (new_root s p) i f
 
   unused : InUse t i → ⊥
-  unused u = both_ways (blossom_at t i).used (ap (λ (a : Blossom). a.used) there) u
+  unused u = both_ways (blossom_at t i).used (ap (λ (a : Blossom). a.used) there ∙ off) u
 
   -- what holds of all other blossoms that were, holds of all
   by_place : (P : ℕ → Blossom → Type 0) → ((h : ℕ) → h ≢ i → InUse s h → P h (blossom_at s h)) → (h : ℕ) → InUse t h → P h (blossom_at t h)
   by_place P old h u = ⊎_elim
       (λ e. absurd (unused (subst (InUse t) e u)))
-      (λ d. subst (P h) (sym (else_same h d)) (old h d (used_was s (new_root s p) i no_blossom h d u)))
+      (λ d. subst (P h) (sym (else_same h d)) (old h d (used_was s (new_root s p) i f h d u)))
       (cases_eq h i)
 
   -- the blossom p was a part of nothing
@@ -106,7 +113,7 @@ module _ (s : State) (kept : Kept s) (p : ℕ) (r : Ripe s p) where
   away h j u l e = root_outermost s kept p r.root h j u l (e ∙ is_p)
 
   rings : (h : ℕ) → InUse t h → Ring t (blossom_at t h)
-  rings = by_place (λ h a. Ring t a) (λ h d u. ring_else s (new_root s p) i no_blossom (blossom_at s h) (λ j l. away h j u l) (kept.nested.rings h u))
+  rings = by_place (λ h a. Ring t a) (λ h d u. ring_else s (new_root s p) i f (blossom_at s h) (λ j l. away h j u l) (kept.nested.rings h u))
 
   one_parent : (g h j l : ℕ) → InUse t g → InUse t h → j < length (blossom_at t g).parts → l < length (blossom_at t h).parts →
       part_at (blossom_at t g) j ≡ part_at (blossom_at t h) l → g ≡ h
@@ -126,13 +133,13 @@ module _ (s : State) (kept : Kept s) (p : ℕ) (r : Ripe s p) where
   -- and has it for its root now; other members keep their root
   root_in : (v : ℕ) (l : v < s.members) (e : root_at s v ≡ p) → root_at t v ≡ part_at b (part v l e).at
   root_in v l e =
-      root_read s (new_root s p) i no_blossom v (omega (arith, kept.sized.few))
+      root_read s (new_root s p) i f v (omega (arith, kept.sized.few))
       ∙ cond-true (ltb v s.members && eqb (root_at s v) p) (holder s b.parts v) (root_at s v) (and_from _ _ (lt-ltb v s.members l) (eq-eqb _ _ e))
       ∙ sym (part v l e).is
 
   root_out : (v : ℕ) → v < s.members → root_at s v ≢ p → root_at t v ≡ root_at s v
   root_out v l d =
-      root_read s (new_root s p) i no_blossom v (omega (arith, kept.sized.few))
+      root_read s (new_root s p) i f v (omega (arith, kept.sized.few))
       ∙ cond-false (ltb v s.members && eqb (root_at s v) p) (holder s b.parts v) (root_at s v)
       (ap (λ (x : Bool). x && eqb (root_at s v) p) (lt-ltb v s.members l) ∙ ne_eqb _ _ d)
 
@@ -144,7 +151,7 @@ module _ (s : State) (kept : Kept s) (p : ℕ) (r : Ripe s p) where
       (cases_eq (root_at s v) p)
 
   old_holds : (q v : ℕ) → q ≢ 200 + i → node_holds t q v ≡ node_holds s q v
-  old_holds = holds_else s (new_root s p) i no_blossom
+  old_holds = holds_else s (new_root s p) i f
 
   root_holds : (v : ℕ) → v < s.members → node_holds t (root_at t v) v ≡ true
   root_holds v l = by_root (λ q. node_holds t q v ≡ true) v l
@@ -158,7 +165,7 @@ module _ (s : State) (kept : Kept s) (p : ℕ) (r : Ripe s p) where
 
   -- the blossom p holds nothing now
   not_p : (q v : ℕ) → node_holds t q v ≡ true → q ≢ 200 + i
-  not_p q v h e = both_ways (node_holds t (200 + i) v) (holds_there s (new_root s p) i no_blossom room v) (subst (λ (x : ℕ). node_holds t x v ≡ true) e h)
+  not_p q v h e = both_ways (node_holds t (200 + i) v) (holds_there s (new_root s p) i f room v ∙ nothing_inside v) (subst (λ (x : ℕ). node_holds t x v ≡ true) e h)
 
   -- a node that is a part of nothing now, and was no part of p, was a part of nothing
   outer_was : (q : ℕ) → among q b.parts ≡ false → Outermost t q → Outermost s q
@@ -169,7 +176,7 @@ module _ (s : State) (kept : Kept s) (p : ℕ) (r : Ripe s p) where
       both_ways (among q b.parts) out (subst (λ (k : ℕ). among k b.parts ≡ true) eb (among_at b.parts j lb)))
       (λ d.
       let same = sym (else_same h d) in
-      outer h j (used_else s (new_root s p) i no_blossom h d u) (subst (λ (a : Blossom). j < length a.parts) same l) (sym (ap (λ (a : Blossom). part_at a j) same) ∙ e))
+      outer h j (used_else s (new_root s p) i f h d u) (subst (λ (a : Blossom). j < length a.parts) same l) (sym (ap (λ (a : Blossom). part_at a j) same) ∙ e))
       (cases_eq h i)
 
   root_only : (v q : ℕ) → v < s.members → node_holds t q v ≡ true → Outermost t q → q ≡ root_at t v
@@ -214,12 +221,12 @@ module _ (s : State) (kept : Kept s) (p : ℕ) (r : Ripe s p) where
   }
 
   keeps : Kept t
-  keeps = kept_placed s (new_root s p) i no_blossom kept (record {
+  keeps = kept_placed s (new_root s p) i f kept (record {
     begun = r.begun;
     fair = fair;
     nested = nested;
     even = by_place (λ h a. a.price % 2 ≡ 0) (λ h d. kept.even h);
-    one_bare = by_place (λ h a. bare t a ≡ 1) (λ h d u. bare_same s (new_root s p) i no_blossom (blossom_at s h) ∙ kept.one_bare h u);
+    one_bare = by_place (λ h a. bare t a ≡ 1) (λ h d u. bare_same s (new_root s p) i f (blossom_at s h) ∙ kept.one_bare h u);
     one_parity = λ h v w hv. by_place
         (λ h a. inside a v ≡ true → inside a w ≡ true → price_at s v % 2 ≡ price_at s w % 2)
         (λ h d u. kept.one_parity h v w) h (inside_used (blossom_at t h) v hv) hv;
@@ -227,7 +234,7 @@ module _ (s : State) (kept : Kept s) (p : ℕ) (r : Ripe s p) where
   })
 
 pub dissolve_keeps : DissolveKeeps
-dissolve_keeps s p kept none = keeps s kept p (ripe s p none)
+dissolve_keeps s p b kept none off = keeps s kept p (ripe s p none) b off
 
 pub dissolve_stays : DissolveStays
-dissolve_stays s p e kept none = yz_stays s kept p (ripe s p none) e
+dissolve_stays s p e b kept none off = yz_stays s kept p (ripe s p none) b off e

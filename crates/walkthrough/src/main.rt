@@ -81,12 +81,10 @@ fn show_plan(rt: &HostRuntime, plan: &Plan) -> io::Result<()> {
     Ok(())
 }
 
-// Makes a board of the triangle.
-fn open(rt: &HostRuntime) -> io::Result<Board<Coarse<ListSource<'static>>>> {
+// Shows a board of the triangle as it is made.
+fn open<S: Source + Drop>(rt: &HostRuntime, board: &Board<S>) -> io::Result<()> {
     println!(rt; "make a board of 3 members and 3 offers of 4 mm, coarse 1 over 1")?;
-    let board = Board::new(Coarse::new(ListSource::new(3, &TRIANGLE), 1, 1));
-    show_board(rt, &board)?;
-    Ok(board)
+    show_board(rt, board)
 }
 
 // Brings the prices down until each offer may be paired.
@@ -104,17 +102,19 @@ fn lower<S: Source + Drop>(rt: &HostRuntime, board: &mut Board<S>) -> io::Result
     show_board(rt, board)
 }
 
-// Asks for two partners, and releases the plan.
-fn close<S: Source + Drop>(rt: &HostRuntime, board: Board<S>) -> io::Result<()> {
+// Asks for two partners.
+fn close<S: Source + Drop>(rt: &HostRuntime, board: &Board<S>) -> io::Result<()> {
     show_partner(rt, "partner of 2", board.partner(2))?;
-    show_partner(rt, "partner of 3", board.partner(3))?;
-    let plan = board.release();
-    println!(rt; "release")?;
-    show_plan(rt, &plan)
+    show_partner(rt, "partner of 3", board.partner(3))
 }
 
+// The board is made and released here, and lent to the rest: it holds its tables, and each move would copy them.
 fn main(rt: HostRuntime) -> io::Result<()> {
-    let mut board = open(&rt)?;
+    let mut board = Board::new(Coarse::new(ListSource::new(3, &TRIANGLE), 1, 1));
+    open(&rt, &board)?;
     lower(&rt, &mut board)?;
-    close(&rt, board)
+    close(&rt, &board)?;
+    let plan = board.release();
+    println!(rt; "release")?;
+    show_plan(&rt, &plan)
 }
