@@ -24,7 +24,7 @@ fn row_of<S: Source>(source: &S, offer: usize) -> Row
 fn all_rows<S: Source>(source: &S) -> [Row; 4000]
     ensures { result ≡ padded (S.Source.rows source.now) }
 {
-    // A loop over the offers that are there: with all 4,000 places made by `from_fn`, a small board takes a third longer to make.
+    // A loop over the offers that are there: with all 4,000 places made by `from_fn`, a small board takes longer to make.
     let mut rows = [Row {
         first: 0,
         second: 0,
